@@ -1,7 +1,7 @@
 #!/usr/bin/env python3
 """Checks the pages of the repository, and ends with 1 where one is wrong.
 
-It looks at README.md, docs/ and tools/. Each name that a page says to stand in a crate, or in a file of its definitions, or that links to a
+It looks at README.md, docs/, tools/ and crates/README.md, in whose tree each crate has a line. Each name that a page says to stand in a crate, or in a file of its definitions, or that links to a
 file of code, stands there; each module of definitions is in the crate that is named beside it; each file that a page links or names by its path is there; each report that a page shows is what its script prints:
 of a script in crates/examples/data the report beside it has those lines, and a script in a page is run, where the program is built; and each
 picture that docs/PICTURES.md says to be made by a command is what the command prints, where flt_draw is built.
@@ -15,6 +15,7 @@ import sys
 TOP = os.path.dirname(os.path.dirname(os.path.abspath(__file__)))
 PROGRAM = f"{TOP}/crates/faultmem/out/faultmem"
 DRAW = f"{TOP}/crates/flt_draw/out/flt_draw"
+TREE = f"{TOP}/crates/README.md"
 NAMED = re.compile(
     r"`([A-Za-z0-9_:]+)`(?:, `([A-Za-z0-9_:]+)`)? of \[?`?(?:\.\./)?(?:crates/)?(flt_[a-z_]+)`?\]?(?:/specs/([A-Za-z]+)\.antt)?(?:, `specs/([A-Za-z]+)\.antt`)?"
 )
@@ -156,11 +157,21 @@ def wrong_pictures(text):
             yield f"{script} is drawn as another picture than {picture}"
 
 
+def wrong_tree(page, text):
+    """Crates without a line in the tree of the crates, and lines of it for what is none."""
+    if page != TREE:
+        return
+    told = re.findall(r"^ {4} *([a-z_]+) +\S", text, re.M)
+    crates = re.findall(r"^([a-z_]+)[^#\n]*:", text_of(f"{TOP}/crates.txt"), re.M)
+    for name in sorted(set(crates) ^ set(told)):
+        yield f"{name} has no line in the tree" if name in crates else f"{name} is no crate"
+
+
 def main():
     wrong = 0
-    for page in sorted([f"{TOP}/README.md", *glob.glob(f"{TOP}/docs/*.md"), *glob.glob(f"{TOP}/tools/*.md")]):
+    for page in sorted([f"{TOP}/README.md", TREE, *glob.glob(f"{TOP}/docs/*.md"), *glob.glob(f"{TOP}/tools/*.md")]):
         text = text_of(page)
-        for what in [*wrong_names(text), *wrong_rows(text), *wrong_links(page, text), *wrong_modules(text), *missing_files(page, text), *wrong_reports(text), *wrong_pictures(text)]:
+        for what in [*wrong_names(text), *wrong_rows(text), *wrong_links(page, text), *wrong_modules(text), *missing_files(page, text), *wrong_reports(text), *wrong_pictures(text), *wrong_tree(page, text)]:
             print(f"{os.path.relpath(page, TOP)}: {what}")
             wrong += 1
     print(f"pages: {'each is right' if not wrong else f'{wrong} faults'}")

@@ -7,11 +7,11 @@ use Rattle.flt_config.specs.declared.config.Config.{Config}
 use Rattle.flt_config.specs.declared.config.DidUse.{DidUse}
 use Rattle.flt_model.specs.declared.call.Op.{Op}
 use Rattle.flt_turn.specs.declared.vault.Entry.{Entry}
-use Rattle.flt_verdict.specs.Verdict.{due_of, line_due}
-use Rattle.flt_verdict.specs.declared.verdict.Verdict.{Verdict}
+use Rattle.flt_filter.specs.Verdict.{due_of, line_due}
+use Rattle.flt_filter.specs.declared.verdict.Verdict.{Verdict}
 use Rattle.flt_trace.specs.Trace.{IsTrace, Texts, trace_data}
 use Rattle.flt_trace.proofs.Line.{is_trace}
-use Rattle.flt_call.specs.Call.{AreCallTexts}
+use Rattle.flt_trace.specs.Call.{AreCallTexts}
 use Rattle.flt_audit.specs.Shape.{Told, Tells}
 use Rattle.flt_audit.specs.Audit.{IsAudited, IsDueOf, IsDueOfTexts, TellsNone, due_texts, judged, no_json, no_trace, unlike_from, verdict_by}
 

@@ -8,7 +8,7 @@ use Rattle.flt_config.specs.declared.config.DidUse.{DidUse}
 use Rattle.flt_model.specs.Answer.{answers}
 use Rattle.flt_report.specs.Answer.{reply_text}
 use Rattle.flt_turn.specs.Journal.{ops_of}
-use Rattle.flt_verdict.specs.Verdict.{Due, line_due}
+use Rattle.flt_filter.specs.Verdict.{Due, line_due}
 use Rattle.flt_trace.specs.Trace.{IsTrace, Texts}
 use Rattle.flt_audit.specs.declared.auditing.Audited.{Audited}
 use Rattle.flt_audit.specs.declared.auditing.Audited.TheVariants.{NoLife, AllDue, Differs}

@@ -7,8 +7,8 @@ use Rattle.flt_model.specs.declared.call.Op.{Op}
 use Rattle.flt_turn.specs.declared.vault.Entry.{Entry}
 use Rattle.flt_script.specs.Script.{ScriptContent, script_of}
 use Rattle.flt_trace.specs.Trace.{Texts}
-use Rattle.flt_base.specs.Base.{IsBaseOf}
-use Rattle.flt_call.specs.Call.{AreCallTexts}
+use Rattle.flt_trace.specs.Base.{IsBaseOf}
+use Rattle.flt_trace.specs.Call.{AreCallTexts}
 
 -- A life under a configuration: the state with which it began, and its calls in their order.
 pub record Told : Type 0 where

@@ -2,21 +2,19 @@
 ghost use Rattle.std.specs.Prelude.{◌≡◌, ◌++◌, IfOk, Some, codes};
 ghost use Rattle.std.specs.Fmt.{decimal};
 ghost use Rattle.flt_did.specs.Table.{dids_of};
-ghost use Rattle.flt_verdict.specs.Verdict.{Tells, due_of, line_due};
+ghost use Rattle.flt_filter.specs.Verdict.{Tells, due_of, line_due, reading_of, writing_of};
 ghost use Rattle.serde_json.specs.View.{view};
 ghost use Rattle.flt_trace.specs.Trace.{texts_of};
 ghost use Rattle.flt_audit.specs.Audit.{IsAuditOf, IsAudited, IsDueOf, IsDueOfTexts};
 
 use crate::replay::first_unlike;
-use flt_base::read_base;
-use flt_call::read_calls;
 use flt_dcm::Unit;
 use flt_dem::Dem;
 use flt_did::{DID_ROWS, DidTable};
+use flt_filter::{Judge, Verdict, answer};
 use flt_io::{Sink, Source, Status};
 use flt_script::{ParseFault, Script, parse};
-use flt_trace::{Trace, read_line, read_trace};
-use flt_verdict::{Judge, Verdict, answer};
+use flt_trace::{Trace, read_base, read_calls, read_line, read_trace};
 use json::Scratch;
 use serde_json::Value;
 use std::alloc::{AllocError, Global};
@@ -148,17 +146,7 @@ pub fn audit<S: Source, K: Sink>(
     sink: &mut K,
     dids: DidTable<DID_ROWS>,
 ) -> u8
-    ensures { Tells (IsAudited (dids_of dids)) (record {
-      left = S.left source.old;
-      left_after = S.left source.new;
-      faults = S.faults source.old;
-      faults_after = S.faults source.new;
-    }) (record {
-      held = K.held sink.old;
-      held_after = K.held sink.new;
-      faults = K.faults sink.old;
-      faults_after = K.faults sink.new;
-    }) result }
+    ensures { Tells (IsAudited (dids_of dids)) (reading_of S.left S.faults source.old source.new) (writing_of K.held K.faults sink.old sink.new) result }
 {
     answer(Auditor { dids }, alloc, source, sink)
 }

@@ -6,8 +6,8 @@ use Rattle.std.specs.Io.KnownBytes.{Consumes}
 use Rattle.flt_config.specs.declared.config.DidUse.{DidUse}
 use Rattle.flt_flash.specs.State.{FlashState}
 use Rattle.flt_report.specs.Fetched.{read_of}
-use Rattle.flt_verdict.specs.Verdict.{Inside, due_of}
-use Rattle.flt_verdict.specs.declared.verdict.Verdict.{Verdict}
+use Rattle.flt_filter.specs.Verdict.{Inside, due_of}
+use Rattle.flt_filter.specs.declared.verdict.Verdict.{Verdict}
 use Rattle.flt_draw.specs.Drawing.{IsDrawn, IsDue}
 
 -- The bytes were read, and a verdict was made of them, or memory ran out.

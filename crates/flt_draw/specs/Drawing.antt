@@ -12,7 +12,7 @@ use Rattle.flt_run.specs.declared.command.Command.TheVariants.{Run}
 use Rattle.flt_run.specs.Ending.{Inside, Outside, Runs}
 use Rattle.flt_script.specs.declared.fault.ScriptFault.{ScriptFault}
 use Rattle.flt_script.specs.Script.{ScriptContent, script_of}
-use Rattle.flt_verdict.specs.Verdict as verdict
+use Rattle.flt_filter.specs.Verdict as verdict
 
 -- A run of these bytes over a flash ends with this status and these lives.
 pub record IsRunOf (dids : List DidUse) (device : FlashState) (bytes : List ℕ) (status : ℕ) (lives : List Life) : Type 0 where

@@ -3,7 +3,7 @@ ghost use Rattle.std.specs.Prelude.{◌≡◌, ◌≤◌, IfOk, IfSome, option_m
 ghost use Rattle.flt_did.specs.Serves.{Serves};
 ghost use Rattle.flt_did.specs.Table.{dids_of};
 ghost use Rattle.flt_flash.specs.Memory.{state_of};
-ghost use Rattle.flt_verdict.specs.Verdict.{due_of};
+ghost use Rattle.flt_filter.specs.Verdict.{due_of, reading_of, writing_of};
 ghost use Rattle.flt_report.specs.Boot.{script_fault_line};
 ghost use Rattle.flt_draw.specs.Drawing.{Draws, IsDrawn, IsDue, IsRunOf};
 
@@ -11,13 +11,13 @@ use crate::command::Command;
 use flt_config::ValidConfig;
 use flt_did::{DID_ROWS, DidTable};
 use flt_fee::Fee;
+use flt_filter::{Verdict, tell};
 use flt_flash::FlashMem;
 use flt_io::{Discard, MemSource, Sink, Source, Status, StreamFault, read_front};
 use flt_picture::{sectors, timeline};
 use flt_report::put_script_fault;
 use flt_run::{OpenGate, Outcome, run};
 use flt_script::{ParseFault, Script, ScriptFault, parse};
-use flt_verdict::{Verdict, tell};
 use std::alloc::{AllocError, Global};
 use std::marker::Sync;
 use std::sync::Wait;
@@ -134,12 +134,7 @@ fn reckon<R: Threads + Wait + Sync, S: Source>(
     requires pages { (state_of flash).pages ≡ 1024 }
     requires boots { 256 ≤ (state_of flash).bench.boots_left }
     requires unarmed { (state_of flash).bench.armed ≡ 0 }
-    ensures { IfSome (option_map due_of result) (IsDue (dids_of tables.run) (state_of flash) (record {
-      left = S.left source.old;
-      left_after = S.left source.new;
-      faults = S.faults source.old;
-      faults_after = S.faults source.new;
-    })) }
+    ensures { IfSome (option_map due_of result) (IsDue (dids_of tables.run) (state_of flash) (reading_of S.left S.faults source.old source.new)) }
 {
     match read_front(alloc, MOST, source) {
         Ok(bytes) => judge(rt, alloc, command, bytes, flash, tables).ok(),
@@ -162,17 +157,7 @@ pub(crate) fn draw<R: Threads + Wait + Sync, S: Source, K: Sink>(
     requires pages { (state_of flash).pages ≡ 1024 }
     requires boots { 256 ≤ (state_of flash).bench.boots_left }
     requires unarmed { (state_of flash).bench.armed ≡ 0 }
-    ensures { Draws (dids_of tables.run) (state_of flash) (record {
-      left = S.left source.old;
-      left_after = S.left source.new;
-      faults = S.faults source.old;
-      faults_after = S.faults source.new;
-    }) (record {
-      held = K.held sink.old;
-      held_after = K.held sink.new;
-      faults = K.faults sink.old;
-      faults_after = K.faults sink.new;
-    }) result }
+    ensures { Draws (dids_of tables.run) (state_of flash) (reading_of S.left S.faults source.old source.new) (writing_of K.held K.faults sink.old sink.new) result }
 {
     let verdict = reckon(rt, alloc, command, source, flash, tables);
     tell(verdict, sink)

@@ -43,7 +43,7 @@ use Rattle.flt_report.specs.Fetched.{read_of}
 use Rattle.flt_run.specs.Ending.{AreLived, EndingHasCause, Inside, IsTold, IsToldOf, WorksOn, lives_of, status_of}
 use Rattle.flt_run.specs.declared.command.Command.TheVariants.{Run}
 use Rattle.flt_run.specs.declared.running.Outcome.{Outcome}
-use Rattle.flt_told.specs.Laws.{IsLifeInRange}
+use Rattle.flt_trace.specs.Laws.{IsLifeInRange}
 use Rattle.flt_examine.specs.Lines.{IsNoScript, LastStarts}
 use Rattle.flt_examine.specs.Traced.{RunsOnBlank, blank_flash, inside_on, no_outside}
 

@@ -18,9 +18,9 @@ use Rattle.flt_life.specs.Room.{told_in}
 use Rattle.flt_life.specs.declared.life.Life.{Life}
 use Rattle.flt_life.specs.declared.replies.LaneReplies.{LaneReplies}
 use Rattle.flt_run.specs.declared.running.Outcome.{Outcome}
-use Rattle.flt_told.specs.Answered.{taken_text, with_lanes}
-use Rattle.flt_told.specs.Laws.{CallsCanBeMade, ToldAnswersAreDue}
-use Rattle.flt_told.proofs.Due.{due_length}
+use Rattle.flt_trace.specs.Answered.{taken_text, with_lanes}
+use Rattle.flt_trace.specs.Laws.{CallsCanBeMade, ToldAnswersAreDue}
+use Rattle.flt_trace.proofs.Due.{due_length}
 use Rattle.flt_audit.specs.Audit.{due_texts}
 use Rattle.flt_audit.specs.Shape.{Tells, Told}
 use Rattle.flt_examine.specs.Lines.{IsLastLine, IsLineOf, IsNoScript, IsReadAs, LastFits, LastStarts}

@@ -5,8 +5,8 @@ use Rattle.std.specs.Result.{result_ok}
 use Rattle.flt_flash.specs.declared.memory.FlashMem.{FlashMem}
 use Rattle.flt_config.specs.declared.config.DidUse.{DidUse}
 use Rattle.flt_run.specs.declared.running.Outcome.{Outcome}
-use Rattle.flt_verdict.specs.Verdict.{Came, Due, HasCome, Inside, IsDue, IsMade, IsTold, IsToldOf, Outside, WantsMemory, due_of, failed, too_many, whole}
-use Rattle.flt_verdict.specs.declared.verdict.Verdict.{Verdict}
+use Rattle.flt_filter.specs.Verdict.{Came, Due, HasCome, Inside, IsDue, IsMade, IsTold, IsToldOf, Outside, WantsMemory, due_of, failed, too_many, whole}
+use Rattle.flt_filter.specs.declared.verdict.Verdict.{Verdict}
 use Rattle.flt_examine.specs.Examination.{IsTraceDueOf, Traces, usage_due}
 use Rattle.flt_examine.specs.Traced.{IsTraceDue, RunsOnBlank}
 

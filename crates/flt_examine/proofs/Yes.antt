@@ -5,7 +5,7 @@ use Rattle.std.specs.Fmt.{decimal}
 use Rattle.std.proofs.lemmas.Slice.Eq.{bytes_eq-Decides}
 use Rattle.serde_json.specs.Read.{read}
 use Rattle.flt_config.specs.declared.config.DidUse.{DidUse}
-use Rattle.flt_verdict.specs.Verdict.{line_due}
+use Rattle.flt_filter.specs.Verdict.{line_due}
 use Rattle.flt_trace.specs.Trace.{Texts, trace_data}
 use Rattle.flt_audit.specs.Audit.{IsAudited, due_texts, judged, unlike_from, verdict, verdict_by}
 use Rattle.flt_audit.specs.Shape.{Tells, Told}

@@ -3,7 +3,7 @@ use Rattle.std.specs.Prelude.{◌≡◌, ◌⊎◌, ℕ, List, Option, Some, Non
 use Rattle.flt_flash.specs.declared.memory.FlashMem.{FlashMem}
 use Rattle.flt_config.specs.declared.config.DidUse.{DidUse}
 use Rattle.flt_run.specs.declared.running.Outcome.{Outcome}
-use Rattle.flt_verdict.specs.Verdict.{Came, Due, HasCome, Inside, IsTold, Outside, Tells, WantsMemory, failed, large_due, line_due, too_many, unread_due, whole}
+use Rattle.flt_filter.specs.Verdict.{Came, Due, HasCome, Inside, IsTold, Outside, Tells, WantsMemory, failed, large_due, line_due, too_many, unread_due, whole}
 use Rattle.flt_audit.specs.Audit.{IsAudited}
 use Rattle.flt_examine.specs.declared.command.Command.{Command}
 use Rattle.flt_examine.specs.declared.command.Command.TheVariants.{Inspect, Trace, Audit}

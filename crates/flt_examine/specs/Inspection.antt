@@ -12,7 +12,7 @@ use Rattle.flt_report.specs.Boot.{boot_text, script_fault_line}
 use Rattle.flt_restore.specs.Judging.{told_as}
 use Rattle.flt_script.specs.declared.fault.ScriptFault.{ScriptFault}
 use Rattle.flt_whole.specs.Image.{image_held}
-use Rattle.flt_verdict.specs.Verdict.{Due, line_due}
+use Rattle.flt_filter.specs.Verdict.{Due, line_due}
 use Rattle.flt_dump.specs.Dump.{DumpContent, Fault, no_script, begun, no_page, dump_of}
 use Rattle.flt_dump.specs.Listing.{listing_text}
 

@@ -12,9 +12,9 @@ use Rattle.flt_turn.specs.Journal.{ops_of}
 use Rattle.flt_life.specs.declared.life.Boot.TheVariants.{Started}
 use Rattle.flt_life.specs.declared.life.Life.{Life}
 use Rattle.flt_trace.specs.Trace.{Texts, trace_data, trace_line}
-use Rattle.flt_base.specs.Base.{IsBaseOf}
-use Rattle.flt_call.specs.Call.{AreCallTexts, CanBeMade}
-use Rattle.flt_told.specs.Answered.{answer_texts}
+use Rattle.flt_trace.specs.Base.{IsBaseOf}
+use Rattle.flt_trace.specs.Call.{AreCallTexts, CanBeMade}
+use Rattle.flt_trace.specs.Answered.{answer_texts}
 
 -- The last of these lives, and the state with which it was started.
 pub record LastStarts (lives : List Life) (life : Life) (start : Persist) : Type 0 where

@@ -14,11 +14,11 @@ use Rattle.flt_lives.specs.Media.{sectors}
 use Rattle.flt_run.specs.declared.command.Command.TheVariants.{Run}
 use Rattle.flt_run.specs.declared.running.Outcome.{Outcome}
 use Rattle.flt_run.specs.Ending.{Inside, Outside, Runs}
-use Rattle.flt_verdict.specs.Verdict.{Due, line_due}
+use Rattle.flt_filter.specs.Verdict.{Due, line_due}
 use Rattle.flt_trace.specs.Trace.{Texts, trace_line}
 use Rattle.flt_audit.specs.Audit.{IsAudited}
 use Rattle.flt_audit.specs.Shape.{Tells}
-use Rattle.flt_told.specs.Answered.{answer_texts}
+use Rattle.flt_trace.specs.Answered.{answer_texts}
 
 -- A blank flash of 1,024 pages a sector, whose power may come 256 times.
 abbrev pub blank_flash : FlashState

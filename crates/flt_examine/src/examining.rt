@@ -4,16 +4,17 @@ ghost use Rattle.std.specs.String.{string_bytes};
 ghost use Rattle.flt_did.specs.Table.{dids_of};
 ghost use Rattle.flt_examine.specs.Command.{command_of};
 ghost use Rattle.flt_examine.specs.Examination.{Examines, Traces};
+ghost use Rattle.flt_filter.specs.Verdict.{reading_of, writing_of};
 
 use crate::command::{Command, command_of};
 use crate::inspecting::inspect;
 use crate::tracing::{Traced, trace_bytes};
 use flt_audit::audit;
 use flt_did::{DID_ROWS, DidTable};
+use flt_filter::{Verdict, read_input, tell};
 use flt_flash::FlashMem;
 use flt_io::{Sink, Source, Status};
 use flt_run::Outcome;
-use flt_verdict::{Verdict, read_input, tell};
 use std::alloc::Global;
 use std::marker::Sync;
 use std::sync::Wait;
@@ -54,17 +55,7 @@ fn trace<R: Threads + Wait + Sync, S: Source, K: Sink>(
     sink: &mut K,
     dids: DidTable<DID_ROWS>,
 ) -> Examined
-    ensures { Traces (dids_of dids) (record {
-      left = S.left source.old;
-      left_after = S.left source.new;
-      faults = S.faults source.old;
-      faults_after = S.faults source.new;
-    }) (record {
-      held = K.held sink.old;
-      held_after = K.held sink.new;
-      faults = K.faults sink.old;
-      faults_after = K.faults sink.new;
-    }) result.traced result.status }
+    ensures { Traces (dids_of dids) (reading_of S.left S.faults source.old source.new) (writing_of K.held K.faults sink.old sink.new) result.traced result.status }
 {
     let bytes = match read_input(alloc, source) {
         Ok(bytes) => bytes,
@@ -102,17 +93,7 @@ pub fn examine<R: Threads + Wait + Sync, S: Source, K: Sink>(
     sink: &mut K,
     dids: DidTable<DID_ROWS>,
 ) -> Examined
-    ensures { Examines (dids_of dids) (record {
-      left = S.left source.old;
-      left_after = S.left source.new;
-      faults = S.faults source.old;
-      faults_after = S.faults source.new;
-    }) (record {
-      held = K.held sink.old;
-      held_after = K.held sink.new;
-      faults = K.faults sink.old;
-      faults_after = K.faults sink.new;
-    }) (command_of (map string_bytes words.now)) result.traced result.status }
+    ensures { Examines (dids_of dids) (reading_of S.left S.faults source.old source.new) (writing_of K.held K.faults sink.old sink.new) (command_of (map string_bytes words.now)) result.traced result.status }
 {
     let Some(command) = command_of(words) else {
         let usage = Verdict::line(

@@ -7,18 +7,18 @@ ghost use Rattle.flt_did.specs.Table.{dids_of};
 ghost use Rattle.flt_generation.specs.Holding.{Generation, Fault};
 ghost use Rattle.flt_restore.specs.declared.fault.StartFault.TheVariants as faults;
 ghost use Rattle.flt_report.specs.Boot.{boot_text};
-ghost use Rattle.flt_verdict.specs.Verdict.{Tells, due_of, line_due};
+ghost use Rattle.flt_filter.specs.Verdict.{Tells, due_of, line_due, reading_of, writing_of};
 ghost use Rattle.flt_dump.specs.Held.{number_told};
 ghost use Rattle.flt_dump.specs.Reads.{content_of};
 ghost use Rattle.flt_examine.specs.Inspection.{IsInspected, boot_of, generation_line, image_due, script_due, status_of};
 
 use flt_did::{DID_ROWS, DidTable};
 use flt_dump::{Dump, DumpFault, Insight, look_into, read_dump};
+use flt_filter::{Judge, Verdict, answer};
 use flt_io::{Sink, Source, Status};
 use flt_report::{put_refused, put_script_fault};
 use flt_restore::StartFault;
 use flt_script::ScriptFault;
-use flt_verdict::{Judge, Verdict, answer};
 use std::alloc::{AllocError, Global};
 
 /// What is reported about bytes that are not a script.
@@ -113,17 +113,7 @@ pub fn inspect<S: Source, K: Sink>(
     sink: &mut K,
     dids: &DidTable<DID_ROWS>,
 ) -> u8
-    ensures { Tells (IsInspected (dids_of dids.now)) (record {
-      left = S.left source.old;
-      left_after = S.left source.new;
-      faults = S.faults source.old;
-      faults_after = S.faults source.new;
-    }) (record {
-      held = K.held sink.old;
-      held_after = K.held sink.new;
-      faults = K.faults sink.old;
-      faults_after = K.faults sink.new;
-    }) result }
+    ensures { Tells (IsInspected (dids_of dids.now)) (reading_of S.left S.faults source.old source.new) (writing_of K.held K.faults sink.old sink.new) result }
 {
     answer(Inspector { dids }, alloc, source, sink)
 }

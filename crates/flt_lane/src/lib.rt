@@ -2,7 +2,7 @@
 //! block make theirs at the same time as one another, at most one of them over the store.
 //!
 //! Stands on `flt_fork` for lanes at once, on `flt_shared` and `flt_queue` for the locks, on `flt_store`, and on `flt_life` for what a
-//! life is told in and for what goes on in it. The layer above, `flt_engine`, takes the memory of a life by `part_rooms` and carries
+//! life is told in and for what goes on in it. The layer above, `flt_run`, takes the memory of a life by `part_rooms` and carries
 //! out its parts by `run_parts`; what the journal and the answers of a life are is said in `specs/Played.antt` of `flt_life`.
 //! Read `specs/Living.antt` first (what the saves leave while a life goes on), then `specs/Block.antt`. What holds of lanes over any
 //! machine stands in `flt_fork`.

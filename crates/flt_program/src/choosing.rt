@@ -6,7 +6,8 @@ ghost use Rattle.flt_lives.specs.Media.{sectors, units};
 ghost use Rattle.flt_notify.specs.Table.{IsAtZero, kinds_in, values_in};
 ghost use Rattle.flt_run.specs.Ending.{Runs};
 ghost use Rattle.flt_run.specs.Seen.{inside_of, outside_of};
-ghost use Rattle.flt_watch.specs.Watch.{Watches, reading_of, writing_of};
+ghost use Rattle.flt_filter.specs.Verdict.{reading_of, writing_of};
+ghost use Rattle.flt_watch.specs.Watch.{Watches};
 ghost use Rattle.flt_program.specs.Program.{EndsOn};
 ghost use Rattle.flt_program.specs.Words.{invocation_of};
 

@@ -24,12 +24,12 @@ ghost use Rattle.flt_run.specs.Seen.{inside_of, unread_inside};
 
 use crate::command::Command;
 use crate::ending::Ending;
+use crate::engine::run_in_lanes;
 use crate::made::Made;
 use flt_config::ValidConfig;
 use flt_dcm::Unit;
 use flt_dem::Dem;
 use flt_did::{DID_ROWS, DidTable};
-use flt_engine::run_in_lanes;
 use flt_io::Source;
 use flt_lane::SharedGate;
 use flt_life::Life;

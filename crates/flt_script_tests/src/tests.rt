@@ -4,11 +4,15 @@ use std::alloc::{AllocError, Global};
 use std::process::Abort;
 use std::test::Fail;
 
+mod answers;
 mod blocks;
 mod configuration;
 mod jobs;
 mod limits;
+mod lines;
 mod loads;
+mod possible;
+mod room;
 
 /// A table with three data identifiers, of 2, 1 and 8 bytes.
 fn table() -> DidTable<DID_ROWS> {

@@ -8,7 +8,7 @@ use Rattle.json.specs.Tree.{depth, items_depth, items_tokens, json_tokens, membe
 use Rattle.json.proofs.Printed.Trees.{value-json_tokens}
 use Rattle.serde_json.specs.Data as values
 use Rattle.serde_json.specs.Read.{max_depth, of_items, of_json, read}
-use Rattle.flt_trace.specs.declared.trace.Trace.{Trace}
+use Rattle.flt_trace.specs.declared.object.trace.Trace.{Trace}
 use Rattle.flt_trace.specs.Trace.{Texts, array_tokens, strings, texts_of, trace_data, trace_tokens}
 
 -- Strings as the grammar has them.

@@ -1,1 +1,5 @@
 pub mod Trace
+pub mod Base
+pub mod Call
+pub mod Answered
+pub mod Laws

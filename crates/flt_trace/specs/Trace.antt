@@ -8,8 +8,8 @@ use Rattle.serde_json.specs.Data.{Data, string, array, object, Items, no_items, 
 use Rattle.serde_json.specs.Events.{members_len}
 use Rattle.serde_json.specs.Find.{get}
 use Rattle.serde_json.specs.Written.{compact_text}
-use Rattle.flt_trace.specs.declared.trace.LifeTexts.{LifeTexts}
-use Rattle.flt_trace.specs.declared.trace.Trace.{Trace}
+use Rattle.flt_trace.specs.declared.object.trace.LifeTexts.{LifeTexts}
+use Rattle.flt_trace.specs.declared.object.trace.Trace.{Trace}
 
 -- The script; the used blocks of the state with which the life began; the calls of its journal; and the answer to each.
 pub record Texts : Type 0 where

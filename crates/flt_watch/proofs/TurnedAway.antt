@@ -6,7 +6,7 @@ use Rattle.flt_io.specs.Fault.{Rose}
 use Rattle.flt_io.specs.Sink.{AppendsFront}
 use Rattle.flt_io.specs.declared.stream.StreamFault.{StreamFault}
 use Rattle.flt_io.specs.declared.stream.StreamFault.TheVariants.{Memory, Failed}
-use Rattle.flt_verdict.specs.Verdict.{Outside}
+use Rattle.flt_filter.specs.Verdict.{Outside}
 use Rattle.flt_watch.specs.Watch.{IsTurnedAway, IsUnmade, WantsMemory, due, status_by}
 use Rattle.flt_watch.specs.declared.watching.WatchOutcome.{WatchOutcome}
 

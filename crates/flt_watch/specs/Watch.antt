@@ -11,7 +11,7 @@ use Rattle.flt_script.specs.Part.{PartOf}
 use Rattle.flt_script.specs.Script.{ScriptContent}
 use Rattle.flt_life.specs.declared.life.Boot.TheVariants.{Started}
 use Rattle.flt_notify.specs.Table.{kinds_in, value_in, values_in}
-use Rattle.flt_verdict.specs.Verdict.{Due, Inside, IsTold, Outside}
+use Rattle.flt_filter.specs.Verdict.{Due, Inside, IsTold, Outside}
 use Rattle.flt_report.specs.Boot.{script_fault_line, unread_line}
 use Rattle.flt_report.specs.Fetched.{AreNoScript, AreScript, HasLostRead}
 use Rattle.flt_io.specs.declared.stream.StreamFault.{StreamFault}
@@ -20,14 +20,6 @@ use Rattle.flt_watch.specs.Asked.{is_watchable}
 use Rattle.flt_watch.specs.Text.{other_line, watch_text}
 use Rattle.flt_watch.specs.Watched.{IsWatched}
 use Rattle.flt_watch.specs.declared.watching.WatchOutcome.{WatchOutcome}
-
--- What a watch reads, before it and after it.
-abbrev pub reading_of : {S : Type 0} → (S → Option (List ℕ)) → (S → ℕ) → S → S → Inside
-reading_of left faults source after = record { left = left source; left_after = left after; faults = faults source; faults_after = faults after }
-
--- What it writes to, before it and after it.
-abbrev pub writing_of : {K : Type 0} → (K → Option (List ℕ)) → (K → ℕ) → K → K → Outside
-writing_of held faults sink after = record { held = held sink; held_after = held after; faults = faults sink; faults_after = faults after }
 
 -- No event, entry, note or overflow.
 pub record IsNoState (state : Persist) : Type 0 where

@@ -8,7 +8,8 @@ ghost use Rattle.flt_life.specs.declared.life.Boot.TheVariants.{Started};
 ghost use Rattle.flt_notify.specs.Table.{IsAtZero, kinds_in, values_in};
 ghost use Rattle.flt_script.specs.Script.{content};
 ghost use Rattle.flt_watch.specs.Asked.{is_watchable};
-ghost use Rattle.flt_watch.specs.Watch.{IsMadeOf, IsNoState, IsUnmade, WantsMemory, Watches, reading_of, status_by, writing_of};
+ghost use Rattle.flt_watch.specs.Watch.{IsMadeOf, IsNoState, IsUnmade, WantsMemory, Watches, status_by};
+ghost use Rattle.flt_filter.specs.Verdict.{reading_of, writing_of};
 
 use crate::asking::{Asked, ask};
 use crate::life::{WatchedLife, live};

@@ -9,9 +9,9 @@ use Rattle.flt_did.specs.Table.{dids_of}
 use Rattle.flt_script.specs.Script.{content, script_of}
 use Rattle.flt_turn.specs.declared.vault.Entry.{Entry}
 use Rattle.flt_trace.specs.Trace.{seen}
-use Rattle.flt_base.specs.Base.{IsBaseOf}
-use Rattle.flt_call.specs.Call.{AreCallTexts}
-use Rattle.flt_call.proofs.Calls.{if_some}
+use Rattle.flt_trace.specs.Base.{IsBaseOf}
+use Rattle.flt_trace.specs.Call.{AreCallTexts}
+use Rattle.flt_trace.proofs.Calls.{if_some}
 use Rattle.flt_trace.specs.Trace.{texts_of}
 use Rattle.flt_audit.specs.Shape.{Told, Tells}
 use Rattle.flt_audit.specs.Audit.{due_texts, unlike_from}

@@ -1,7 +1,7 @@
 use Rattle.serde_json.specs.View.{view}
 use Rattle.flt_did.specs.Table.{dids_of}
 use Rattle.flt_trace.specs.Trace.{IsTrace, Texts, texts_of}
-use Rattle.flt_call.proofs.Calls.{if_none, if_some}
+use Rattle.flt_trace.proofs.Calls.{if_none, if_some}
 use Rattle.flt_audit.proofs.Shapes.{no_trace_due, trace_due}
 use Rattle.flt_audit.proofs.auditing.judge_value.Goals as goal
 

@@ -2,8 +2,8 @@ use Rattle.std.proofs.Common.{Option, IfSome, sym, subst}
 use Rattle.std.specs.Prelude.{option_map}
 use Rattle.flt_did.specs.Table.{dids_of}
 use Rattle.flt_flash.specs.Memory.{state_of}
-use Rattle.flt_verdict.specs.Verdict.{Inside, due_of}
-use Rattle.flt_verdict.specs.declared.verdict.Verdict.{Verdict}
+use Rattle.flt_filter.specs.Verdict.{Inside, due_of}
+use Rattle.flt_filter.specs.declared.verdict.Verdict.{Verdict}
 use Rattle.flt_draw.specs.Drawing.{IsDue}
 use Rattle.flt_draw.proofs.Told.{drawn_due}
 use Rattle.flt_draw.proofs.drawing.reckon.Goals as goal

@@ -1,8 +1,8 @@
 use Rattle.std.proofs.Common.{◌∙◌, None, Option, refl, subst, sym}
 use Rattle.std.specs.Prelude.{option_map}
 use Rattle.flt_did.specs.Table.{dids_of}
-use Rattle.flt_verdict.specs.Verdict.{Inside, IsToldOf, Outside, due_of}
-use Rattle.flt_verdict.specs.declared.verdict.Verdict.{Verdict}
+use Rattle.flt_filter.specs.Verdict.{Inside, IsToldOf, Outside, due_of}
+use Rattle.flt_filter.specs.declared.verdict.Verdict.{Verdict}
 use Rattle.flt_examine.specs.Examination.{Examines}
 use Rattle.flt_examine.specs.declared.command.Command.{Command}
 use Rattle.flt_examine.proofs.Telling.{usage_told}

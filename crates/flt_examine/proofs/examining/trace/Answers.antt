@@ -1,11 +1,11 @@
 use Rattle.std.proofs.Common.{ℕ, Err, None, ap, refl, subst, sym}
 use Rattle.std.specs.Prelude.{option_map}
 use Rattle.flt_did.specs.Table.{dids_of}
-use Rattle.flt_verdict.specs.Verdict.{Inside, Outside, due_of}
+use Rattle.flt_filter.specs.Verdict.{Inside, Outside, due_of}
 use Rattle.flt_examine.specs.Examination.{Traces}
 use Rattle.flt_examine.specs.Traced.{IsTraceDue, RunsOnBlank}
 use Rattle.flt_examine.specs.declared.tracing.Traced.{Traced}
-use Rattle.flt_verdict.proofs.Told.{fault_made}
+use Rattle.flt_filter.proofs.Told.{fault_made}
 use Rattle.flt_examine.proofs.Telling.{NotJudged, run_told, unread_told}
 use Rattle.flt_examine.proofs.Made.{of_some}
 use Rattle.flt_examine.proofs.examining.trace.Goals as goal

@@ -3,7 +3,7 @@ use Rattle.flt_notify.specs.Table.{kinds_in, values_in}
 use Rattle.flt_report.specs.Boot.{script_fault_line, unread_line}
 use Rattle.flt_script.specs.Script.{content}
 use Rattle.flt_watch.specs.Text.{other_line}
-use Rattle.flt_watch.specs.Watch.{writing_of}
+use Rattle.flt_filter.specs.Verdict.{writing_of}
 use Rattle.flt_watch.proofs.MadeScript.{nothing_written}
 use Rattle.flt_watch.proofs.TurnedAway.{turned_away}
 use Rattle.flt_watch.proofs.watching.watch.Goals as goal

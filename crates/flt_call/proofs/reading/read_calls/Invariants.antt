@@ -1,7 +1,0 @@
-use Rattle.std.proofs.Common.{take}
-use Rattle.flt_trace.specs.Trace.{seen}
-use Rattle.flt_call.specs.Call.{AreCallTexts}
-use Rattle.flt_call.proofs.reading.read_calls.Given as goal
-
-abbrev pub invariant-loop-text : goal.invariant-loop-text
-invariant-loop-text l = AreCallTexts l.config l.calls.items (take l.text-index (seen l.texts))

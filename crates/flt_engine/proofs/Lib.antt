@@ -1,4 +1,0 @@
-pub mod Weights
-pub mod Counting
-pub mod Endings
-pub mod LifeEnds

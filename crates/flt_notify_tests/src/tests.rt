@@ -1,3 +1,0 @@
-//! Subscribers: their table, and what they are told.
-mod tables;
-mod told;

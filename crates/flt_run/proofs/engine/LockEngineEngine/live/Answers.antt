@@ -1,0 +1,99 @@
+use Rattle.std.proofs.Common.{◌≡◌, All, map, reverse, sym, ap, subst, ◌∙◌}
+use Rattle.flt_script.specs.Part.{parts_of}
+use Rattle.flt_store.specs.Store.{driver_of, numbered}
+use Rattle.flt_life.specs.declared.life.Boot.TheVariants as boots
+use Rattle.flt_life.specs.Causes.{AreCaused}
+use Rattle.flt_life.specs.Chain.{KeepsApplications, LifeView, Leaves, start_from, told_of}
+use Rattle.flt_life.specs.Moment.{moment_of}
+use Rattle.flt_life.specs.Played.{IsLife, IsPlayed}
+use Rattle.flt_life.specs.Room.{told_in}
+use Rattle.flt_shared.specs.Call.{Seat}
+use Rattle.flt_lane.specs.Room.{IsPartFor}
+use Rattle.flt_lane.specs.Runs.{QueueSeat}
+use Rattle.flt_fork.proofs.Closing.{fresh_of, closed}
+use Rattle.flt_run.proofs.LifeEnds.{IsOver, caused_of, holds_of, left_of, over_of, parts_for, same_blocks, turned_life}
+use Rattle.flt_run.proofs.engine.LockEngineEngine.live.Given as given
+use Rattle.flt_run.proofs.engine.LockEngineEngine.live.Goals as goal
+
+pub run_parts-requires-clause-steps : goal.run_parts-requires-clause-steps
+run_parts-requires-clause-steps g c κs within = subst (All (IsPartFor c.args.config.now)) (sym c.in_ok-rooms.ensures.parts) (parts_for c.args.config.now (parts_of c.args.parts.now) c.requires.possible c.requires.few)
+
+pub run_parts-requires-clause-alive : goal.run_parts-requires-clause-alive
+run_parts-requires-clause-alive g c κs within = record { held = _; spare = _; running = c.requires.running }
+
+pub returns-clause-boot : goal.returns-clause-boot
+returns-clause-boot g c = ap (λ (view : LifeView). view.boot) (c.life_of-life.ensures (parts_of c.args.parts.now)) ∙ ap (λ s. boots.Started c.args.generation s) c.twin-start.ensures
+
+over : (g : given.Over) (c : goal.After-life_of-life g) → IsOver c.args.config.now c.args.buffers.now.state c.in-Ok.main c.run_parts.new.seats.dem c.in-Ok-make.jobs c.run_parts.new.seats.queue (parts_of c.args.parts.now) (told_in c.run_parts.new.answers.own)
+    (map told_in c.run_parts.new.answers.told.items) c.close-journal.result.journal.items c.close-queued.result.journal.items c.args.store.now c.run_parts.new.store
+over g c =
+    let main = c.in-Ok.main in
+    let after = c.run_parts.new.seats.dem in
+    let jobs = c.in-Ok-make.jobs in
+    let jobs_after = c.run_parts.new.seats.queue in
+    let journal = c.close-journal.result.journal.items in
+    let queue = c.close-queued.result.journal.items in
+    let begins : main.start ≡ start_from c.args.config.now c.args.buffers.now.state =
+    ap (λ (s : Seat). s.start) c.in-Ok.ensures.ok ∙ (λ i. record { config = (c.boot.ensures.config ∙ c.requires.same) i; base = c.boot.ensures.stands.base i }) in
+    let counted = ap (λ (s : QueueSeat). s.start) c.in-Ok-make.ensures.ok ∙ same_blocks c.config.result.now c.args.config.now c.config.ensures.value in
+    over_of c.args.config.now c.args.buffers.now.state main after jobs jobs_after _ (parts_of c.args.parts.now) (told_in c.run_parts.new.answers.own) (map told_in c.run_parts.new.answers.told.items) journal queue c.args.store.now c.run_parts.new.store
+    (fresh_of main _ _ _ c.in-Ok.ensures.ok) (fresh_of jobs _ _ _ c.in-Ok-make.ensures.ok) begins counted c.in_ok-rooms.ensures.parts c.run_parts.ensures.lived
+    (closed after journal c.close-journal.ensures.seen c.close-journal.ensures.olds c.close-journal.ensures.calls)
+    (closed jobs_after queue c.close-queued.ensures.seen c.close-queued.ensures.olds c.close-queued.ensures.calls) c.run_parts.ensures.carries
+
+pub returns-clause-leaves : goal.returns-clause-leaves
+returns-clause-leaves g c =
+    let first = numbered c.args.generation c.args.buffers.now.state in
+    let parts = parts_of c.args.parts.now in
+    let own = told_in c.run_parts.new.answers.own in
+    let lanes = map told_in c.run_parts.new.answers.told.items in
+    let journal = c.close-journal.result.journal.items in
+    let queue = c.close-queued.result.journal.items in
+    let left = left_of c.args.config.now c.args.generation c.args.buffers.now.state _ _ _ _ parts own lanes journal queue c.args.store.now c.run_parts.new.store (over g c) c.requires.running in
+    let view : LifeView = record { parts = parts; boot = _; journal = reverse journal; queue = reverse queue; own = own; lanes = lanes } in
+    let leaves : Leaves c.args.config.now first view (moment_of (driver_of c.run_parts.new.store)) = record {
+      held = left.held;
+      spare = left.spare;
+      last = left.kept.last;
+      sound = record { undamaged = g.met.D.Blocks.mounted_is_sound c.run_parts.new.store.nvm.blocks left.running.served.mounted; sound = left.running.sound };
+      acknowledged = left.kept.acknowledged;
+      held_is = left.kept.held_is;
+      spare_is = left.kept.spare_is;
+      rising = left.kept.rising;
+    } in
+    subst (λ (view : LifeView). Leaves c.args.config.now first view (moment_of (driver_of c.run_parts.new.store))) (sym {b = view} (c.life_of-life.ensures parts)) leaves
+
+pub returns-clause-caused : goal.returns-clause-caused
+returns-clause-caused g c = λ boot rose.
+    let parts = parts_of c.args.parts.now in
+    let own = told_in c.run_parts.new.answers.own in
+    let lanes = map told_in c.run_parts.new.answers.told.items in
+    let journal = c.close-journal.result.journal.items in
+    let queue = c.close-queued.result.journal.items in
+    let view : LifeView = record { parts = parts; boot = _; journal = reverse journal; queue = reverse queue; own = own; lanes = lanes } in
+    subst (λ (view : LifeView). AreCaused c.args.config.now boot (moment_of (driver_of c.run_parts.new.store)) (told_of view)) (sym {b = view} (c.life_of-life.ensures parts))
+    (caused_of c.args.config.now c.args.generation c.args.buffers.now.state _ _ _ _ parts own lanes journal queue c.args.store.now c.run_parts.new.store (over g c) c.requires.running boot rose)
+
+pub returns-clause-played : goal.returns-clause-played
+returns-clause-played g c =
+    let parts = parts_of c.args.parts.now in
+    let own = told_in c.run_parts.new.answers.own in
+    let lanes = map told_in c.run_parts.new.answers.told.items in
+    let journal = c.close-journal.result.journal.items in
+    let queue = c.close-queued.result.journal.items in
+    let view : LifeView = record { parts = parts; boot = _; journal = reverse journal; queue = reverse queue; own = own; lanes = lanes } in
+    let turned = turned_life (start_from c.args.config.now c.args.buffers.now.state) parts own lanes journal queue (over g c).ended.life in
+    subst (λ (view : LifeView). IsPlayed c.args.config.now view) (sym {b = view} (c.life_of-life.ensures parts))
+    (subst (λ (s : _). IsLife (start_from c.args.config.now s) parts own lanes (reverse (reverse journal)) (reverse (reverse queue))) (sym c.twin-start.ensures) turned)
+
+pub returns-clause-kept : goal.returns-clause-kept
+returns-clause-kept g c =
+    let parts = parts_of c.args.parts.now in
+    let own = told_in c.run_parts.new.answers.own in
+    let lanes = map told_in c.run_parts.new.answers.told.items in
+    let journal = c.close-journal.result.journal.items in
+    let queue = c.close-queued.result.journal.items in
+    let view : LifeView = record { parts = parts; boot = _; journal = reverse journal; queue = reverse queue; own = own; lanes = lanes } in
+    let holds = holds_of c.args.config.now c.args.generation c.args.buffers.now.state _ _ _ _ parts own lanes journal queue c.args.store.now c.run_parts.new.store (over g c) c.requires.running in
+    subst (λ (view : LifeView). KeepsApplications (moment_of (driver_of c.args.store.now)) (moment_of (driver_of c.run_parts.new.store)) view) (sym {b = view} (c.life_of-life.ensures parts))
+    record { held = holds.held; got = holds.got }

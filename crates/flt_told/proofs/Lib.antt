@@ -1,7 +1,0 @@
-mod Each
-mod Filled
-mod Covered
-mod Paired
-mod Calling
-pub mod Due
-mod Put

@@ -1,7 +1,0 @@
-use Rattle.std.proofs.Common.{◌≡◌, map, replicate}
-use Rattle.std.specs.String.{string_bytes}
-use Rattle.flt_told.specs.Answered.{taken_text}
-use Rattle.flt_told.proofs.answering.taken_texts.Given as goal
-
-abbrev pub invariant-loop : goal.invariant-loop
-invariant-loop l = map string_bytes l.texts.items ≡ replicate l.counter taken_text

@@ -1,0 +1,7 @@
+use Rattle.std.proofs.Common.{◌≡◌, map, replicate}
+use Rattle.std.specs.String.{string_bytes}
+use Rattle.flt_trace.specs.Answered.{taken_text}
+use Rattle.flt_trace.proofs.answers.answering.taken_texts.Given as goal
+
+abbrev pub invariant-loop : goal.invariant-loop
+invariant-loop l = map string_bytes l.texts.items ≡ replicate l.counter taken_text
