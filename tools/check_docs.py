@@ -1,7 +1,8 @@
 #!/usr/bin/env python3
 """Checks the pages of the repository, and ends with 1 where one is wrong.
 
-It looks at README.md, docs/, tools/ and crates/README.md, in whose tree each crate has a line. Each name that a page says to stand in a crate, or in a file of its definitions, or that links to a
+It looks at README.md, docs/, tools/ and crates/README.md, in whose tree each crate has a line. The table of docs/ARCHITECTURE.md has each place
+that names all kinds of steps of a script. Each name that a page says to stand in a crate, or in a file of its definitions, or that links to a
 file of code, stands there; each module of definitions is in the crate that is named beside it; each file that a page links or names by its path is there; each report that a page shows is what its script prints:
 of a script in crates/examples/data the report beside it has those lines, and a script in a page is run, where the program is built; and each
 picture that docs/PICTURES.md says to be made by a command is what the command prints, where flt_draw is built.
@@ -16,6 +17,9 @@ TOP = os.path.dirname(os.path.dirname(os.path.abspath(__file__)))
 PROGRAM = f"{TOP}/crates/faultmem/out/faultmem"
 DRAW = f"{TOP}/crates/flt_draw/out/flt_draw"
 TREE = f"{TOP}/crates/README.md"
+PLACES = f"{TOP}/docs/ARCHITECTURE.md"
+# Kinds of steps that are written by several words, which keywords have.
+WRITTEN = {"Report": ("Pass",), "Post": ("Urge",), "Arming": ("Cut",)}
 NAMED = re.compile(
     r"`([A-Za-z0-9_:]+)`(?:, `([A-Za-z0-9_:]+)`)? of \[?`?(?:\.\./)?(?:crates/)?(flt_[a-z_]+)`?\]?(?:/specs/([A-Za-z]+)\.antt)?(?:, `specs/([A-Za-z]+)\.antt`)?"
 )
@@ -167,11 +171,41 @@ def wrong_tree(page, text):
         yield f"{name} has no line in the tree" if name in crates else f"{name} is no crate"
 
 
+def item_of(path, name):
+    """Returns the item of this name in a file: from the line that declares it to the next blank line at its end, or nothing."""
+    declared = re.search(rf"^[^\n/]*\b(?:enum|fn|abbrev pub|unfoldable pub) {re.escape(name)}\b.*?(?=\n\n|\Z)", text_of(path), re.M | re.S)
+    return declared.group(0) if declared else ""
+
+
+def wrong_places(page, text):
+    """Places of the table of steps that lack a kind of step, and files that name all kinds and are not in the table."""
+    if page != PLACES:
+        return
+    step = item_of(f"{TOP}/crates/flt_step/src/step.rt", "Step")
+    kinds = re.findall(r"^    ([A-Z][a-z]+)\b", step, re.M)
+    table = re.findall(r"^\|.*\bin `crates/.*\|$", text.split("## How to add a line to the script language", 1)[-1], re.M)
+    places = [place for row in table for place in re.findall(r"((?:`[A-Za-z_]+`(?: and )?)+) in `(crates/[A-Za-z0-9_/.]+)`", row)]
+    if len(kinds) < 10 or len(places) < 10:
+        yield "the table of the places of a step can't be read"
+    for names, path in places:
+        for name in re.findall(r"`([A-Za-z_]+)`", names):
+            found = item_of(f"{TOP}/{path}", name)
+            for kind in kinds if "trace" not in path else []:
+                if not re.search(rf"\b{kind}\b", found) and not (kind in WRITTEN and any(word in found for word in WRITTEN[kind])):
+                    yield f"{name} of {path} has no {kind}"
+    listed = {path for _, path in places}
+    for path in glob.glob(f"{TOP}/crates/flt_*/src/**/*.rt", recursive=True) + glob.glob(f"{TOP}/crates/flt_*/specs/*.antt"):
+        short = os.path.relpath(path, TOP)
+        named = set(re.findall(r"\b(?:Step|step|steps)(?:::|\.)([A-Z][a-z]+)\b", text_of(path)))
+        if "_tests/" not in short and short not in listed and set(kinds) - named in (set(), {"Arming"}):
+            yield f"{short} names all kinds of steps, and is not in the table"
+
+
 def main():
     wrong = 0
     for page in sorted([f"{TOP}/README.md", TREE, *glob.glob(f"{TOP}/docs/*.md"), *glob.glob(f"{TOP}/tools/*.md")]):
         text = text_of(page)
-        for what in [*wrong_names(text), *wrong_rows(text), *wrong_links(page, text), *wrong_modules(text), *missing_files(page, text), *wrong_reports(text), *wrong_pictures(text), *wrong_tree(page, text)]:
+        for what in [*wrong_names(text), *wrong_rows(text), *wrong_links(page, text), *wrong_modules(text), *missing_files(page, text), *wrong_reports(text), *wrong_pictures(text), *wrong_tree(page, text), *wrong_places(page, text)]:
             print(f"{os.path.relpath(page, TOP)}: {what}")
             wrong += 1
     print(f"pages: {'each is right' if not wrong else f'{wrong} faults'}")

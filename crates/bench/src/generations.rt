@@ -26,18 +26,7 @@ pub fn config(count: u16) -> Option<ValidConfig> {
     let mut events = ArrayVec::new();
     for number in 0..count {
         if !events.is_full() {
-            events.push(EventCfg {
-                dtc: 1 + number as u32,
-                priority: 1,
-                cycle: 0,
-                confirm: 1,
-                heal: 3,
-                age: 40,
-                indicator: false,
-                needs: 0,
-                debounce: Default::default(),
-                dids: ArrayVec::new(),
-            });
+            events.push(EventCfg::new(1 + number as u32));
         }
     }
     check(Config {

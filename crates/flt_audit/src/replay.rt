@@ -12,7 +12,7 @@ ghost use Rattle.flt_audit.specs.Audit.{unlike_from};
 use arrayvec::ArrayVec;
 use flt_config::Persist;
 use flt_dcm::Unit;
-use flt_life::Entry;
+use flt_life_model::Entry;
 use flt_model::{Op, RESPONSE};
 use flt_report::put_reply;
 use std::alloc::{AllocError, Global};

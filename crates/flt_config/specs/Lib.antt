@@ -5,3 +5,4 @@ pub mod Durable
 pub mod Laws
 pub mod FieldLaws
 pub mod RangeExamples
+pub mod Plain

@@ -82,6 +82,31 @@ pub struct EventCfg {
     pub dids: ArrayVec<DidUse, DIDS>,
 }
 
+impl EventCfg {
+    ghost use Rattle.std.specs.Prelude.{◌≡◌};
+    ghost use Rattle.flt_config.specs.Plain.{plain_event};
+
+    /// An event of this DTC, with what an event line of a script gives where it names nothing else (this profile): priority 1,
+    /// operation cycle 0, confirmed by one failed cycle, healed after 3 clean cycles and aged after 40, without a warning indicator,
+    /// an enable condition that it needs or a data identifier, and debounced by the default counter.
+    pub fn new(dtc: u32) -> EventCfg
+        ensures { result ≡ plain_event dtc }
+    {
+        EventCfg {
+            dtc,
+            priority: 1,
+            cycle: 0,
+            confirm: 1,
+            heal: 3,
+            age: 40,
+            indicator: false,
+            needs: 0,
+            debounce: Debounce::default(),
+            dids: ArrayVec::new(),
+        }
+    }
+}
+
 /// A whole configuration, as it is written.
 #[derive(Clone, Drop, PartialEq, Eq, Debug)]
 pub struct Config {

@@ -5,7 +5,7 @@ use Rattle.std.specs.Result.{result_ok}
 use Rattle.std.specs.Io.KnownBytes.{Consumes}
 use Rattle.flt_config.specs.declared.config.DidUse.{DidUse}
 use Rattle.flt_flash.specs.State.{FlashState}
-use Rattle.flt_report.specs.Fetched.{read_of}
+use Rattle.flt_script.specs.Fetched.{read_of}
 use Rattle.flt_filter.specs.Verdict.{Inside, due_of}
 use Rattle.flt_filter.specs.declared.verdict.Verdict.{Verdict}
 use Rattle.flt_draw.specs.Drawing.{IsDrawn, IsDue}

@@ -4,10 +4,10 @@ use Rattle.std.specs.Io.KnownBytes.{Consumes}
 use Rattle.flt_io.specs.Fault.{Rose}
 use Rattle.flt_flash.specs.State.{FlashState}
 use Rattle.flt_config.specs.declared.config.DidUse.{DidUse}
-use Rattle.flt_life.specs.declared.life.Life.{Life}
+use Rattle.flt_life_model.specs.declared.life.Life.{Life}
 use Rattle.flt_lives.specs.Media.{sectors}
-use Rattle.flt_report.specs.Boot.{script_fault_line}
-use Rattle.flt_report.specs.Fetched.{read_of}
+use Rattle.flt_script.specs.Fault.{script_fault_line}
+use Rattle.flt_script.specs.Fetched.{read_of}
 use Rattle.flt_run.specs.declared.command.Command.TheVariants.{Run}
 use Rattle.flt_run.specs.Ending.{Inside, Outside, Runs}
 use Rattle.flt_script.specs.declared.fault.ScriptFault.{ScriptFault}

@@ -5,6 +5,7 @@ ghost use Rattle.flt_flash.specs.State.{CanArm};
 mod ea;
 mod fee;
 mod job;
+mod worked;
 
 use flt_flash::{Arm, BlockFault, Blocks, Found};
 use std::process::Abort;

@@ -6,15 +6,15 @@ use Rattle.flt_flash.specs.State.{HasRisenBy}
 use Rattle.flt_flash.specs.Blocks.{BlocksState}
 use Rattle.flt_config.specs.declared.config.Config.{Config}
 use Rattle.flt_config.specs.declared.persist.Persist.{Persist}
-use Rattle.flt_generation.specs.Holding.{Generation, Fault, damaged, other, held}
-use Rattle.flt_generation.specs.declared.place.Place.TheVariants.{Page}
+use Rattle.flt_store_model.specs.Holding.{Generation, Fault, damaged, other, held}
+use Rattle.flt_store_model.specs.declared.place.Place.TheVariants.{Page}
 use Rattle.flt_restore.specs.Restored.{IsJudged, IsRestored, Refuses, generation}
 use Rattle.flt_restore.specs.declared.commit.CommitCopy.{CommitCopy}
 use Rattle.flt_restore.specs.declared.commit.Restored.{Restored}
 use Rattle.flt_restore.specs.declared.fault.StartFault.{StartFault}
 use Rattle.flt_restore.specs.declared.fault.StartFault.TheVariants.{Flash, Damaged, OtherConfig, SequenceSpent}
-use Rattle.flt_whole.specs.Image.{image_blocks, image_damage, image_held}
-use Rattle.flt_whole.specs.Whole.{unless_damaged}
+use Rattle.flt_store_model.specs.Image.{image_blocks, image_damage, image_held}
+use Rattle.flt_store_model.specs.Whole.{unless_damaged}
 use Rattle.flt_dump.specs.Held.{number_of, number_told}
 
 -- The pages are at fault.

@@ -2,8 +2,8 @@
 use Rattle.std.proofs.Common.{◌≡◌, ◌≢◌, ⊎_elim, ℕ, Bool, true, false, List, [], ◌∷◌, ◌++◌, Option, Some, None, Result, Ok, Err, refl, sym, ◌∙◌, ap, subst}
 use Rattle.std.specs.Prelude.{codes}
 use Rattle.flt_flash.specs.Image.{sector_at}
-use Rattle.flt_sector.specs.Log.{LogFrom, log}
-use Rattle.flt_sector.specs.Blocks.{Current, current}
+use Rattle.flt_sector_model.specs.Log.{LogFrom, log}
+use Rattle.flt_sector_model.specs.Blocks.{Current, current}
 use Rattle.flt_pages.specs.Told.{TellsOrFails, current_of, told_current}
 use Rattle.flt_pages.specs.declared.sectors.CurrentSector.{CurrentSector}
 use Rattle.flt_dump.specs.Listed.{IsListed}

@@ -2,10 +2,10 @@
 use Rattle.std.proofs.Common.{◌≡◌, ◌≢◌, ⊎_elim, ◌+◌, ◌-◌, ◌≤◌, ℕ, zero, suc, Bool, true, false, List, [], ◌∷◌, ◌++◌, Option, Some, None, Result, Ok, Err, refl, sym, ◌∙◌, ap, subst, arith, append_assoc}
 use Rattle.std.proofs.lemmas.List.{append-nil}
 use Rattle.flt_flash.specs.Blocks.{byte_pages, record_pages}
-use Rattle.flt_sector.specs.Log.{Entry, LogFrom, item_at, first_written, log_after, log_from, log}
-use Rattle.flt_sector.specs.declared.log.Item.{Item}
-use Rattle.flt_sector.specs.declared.log.Item.TheVariants.{End, Torn, Kept}
-use Rattle.flt_sector.proofs.Logged.{log_on, log_step}
+use Rattle.flt_sector_model.specs.Log.{Entry, LogFrom, item_at, first_written, log_after, log_from, log}
+use Rattle.flt_sector_model.specs.declared.log.Item.{Item}
+use Rattle.flt_sector_model.specs.declared.log.Item.TheVariants.{End, Torn, Kept}
+use Rattle.flt_sector_model.proofs.Logged.{log_on, log_step}
 use Rattle.flt_pages.proofs.ItemPages.{item_within}
 use Rattle.std.specs.Result.{is_ok}
 use Rattle.flt_pages.specs.declared.fault.PageFault.{PageFault}

@@ -10,8 +10,8 @@ use Rattle.flt_config.specs.declared.config.DidUse.{DidUse}
 use Rattle.flt_script.specs.declared.fault.LineCause.TheVariants.{Form}
 use Rattle.flt_script.specs.declared.fault.ScriptFault.{ScriptFault}
 use Rattle.flt_script.specs.Script.{ScriptContent, script_of}
-use Rattle.flt_script.specs.Part.{PartOf}
-use Rattle.flt_script.specs.declared.step.Step.{Step}
+use Rattle.flt_step.specs.Part.{PartOf}
+use Rattle.flt_step.specs.declared.step.Step.{Step}
 use Rattle.flt_script.specs.Text.{lines_of}
 
 -- A configuration, and the image of a flash: two sectors of as many pages as the configuration has.

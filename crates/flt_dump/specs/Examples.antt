@@ -1,7 +1,7 @@
 -- Worked dumps and listings.
 use Rattle.std.specs.Prelude.{◌≡◌, ℕ, List, [], ◌∷◌, ◌++◌, replicate, codes, Ok, Err}
-use Rattle.flt_sector.specs.Example.{image_of, sector_of, torn, valid_sector}
-use Rattle.flt_sector.specs.Examples.{blocks, every_image}
+use Rattle.flt_sector_model.specs.Example.{image_of, sector_of, torn, valid_sector}
+use Rattle.flt_sector_model.specs.Examples.{blocks, every_image}
 use Rattle.flt_dump.specs.Dump.{pages_in}
 use Rattle.flt_dump.specs.Listing.{listing_text}
 

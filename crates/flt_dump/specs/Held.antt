@@ -1,12 +1,12 @@
 -- What an image is found to hold, and what it says line by line.
 use Rattle.std.specs.Prelude.{◌≡◌, ℕ, Option, Some, None, Result, Ok, Err}
 use Rattle.flt_config.specs.declared.config.Config.{Config}
-use Rattle.flt_generation.specs.Holding.{Generation, Fault}
-use Rattle.flt_generation.specs.Layout.{numbers}
+use Rattle.flt_store_model.specs.Holding.{Generation, Fault}
+use Rattle.flt_store_model.specs.Layout.{numbers}
 use Rattle.flt_restore.specs.Judging.{told_as}
 use Rattle.flt_restore.specs.declared.commit.CommitCopy.{CommitCopy}
 use Rattle.flt_restore.specs.declared.fault.StartFault.{StartFault}
-use Rattle.flt_whole.specs.Image.{image_held}
+use Rattle.flt_store_model.specs.Image.{image_held}
 use Rattle.flt_dump.specs.declared.held.Insight.{Insight}
 use Rattle.flt_dump.specs.Dump.{DumpContent}
 use Rattle.flt_dump.specs.Listing.{listing_text}

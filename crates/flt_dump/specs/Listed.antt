@@ -1,6 +1,6 @@
 -- What is put of a log. This serves the proof.
 use Rattle.std.specs.Prelude.{◌≡◌, ◌≢◌, ℕ, Bool, true, false, List, ◌++◌, None}
-use Rattle.flt_sector.specs.Log.{Entry, LogFrom}
+use Rattle.flt_sector_model.specs.Log.{Entry, LogFrom}
 use Rattle.flt_dump.specs.Listing.{log_text}
 use Rattle.flt_dump.specs.declared.listing.Record.{Record}
 

@@ -3,8 +3,8 @@ use Rattle.std.specs.Prelude.{ℕ, zero, suc, ◌+◌, ◌-◌, Bool, true, fals
 use Rattle.std.specs.Fmt.{decimal}
 use Rattle.flt_flash.specs.Image.{sector_at}
 use Rattle.flt_flash.specs.Blocks.{record_pages}
-use Rattle.flt_sector.specs.Log.{Entry, LogFrom, log}
-use Rattle.flt_sector.specs.Blocks.{Current, current}
+use Rattle.flt_sector_model.specs.Log.{Entry, LogFrom, log}
+use Rattle.flt_sector_model.specs.Blocks.{Current, current}
 
 -- A page with a torn head.
 unfoldable pub torn_line : ℕ → List ℕ

@@ -1,6 +1,6 @@
 //! What the image of a dump holds.
 ghost use Rattle.std.specs.Prelude.{◌≡◌, ◌≤◌, IfOk};
-ghost use Rattle.flt_whole.specs.Image.{image_held};
+ghost use Rattle.flt_store_model.specs.Image.{image_held};
 ghost use Rattle.flt_dump.specs.Copy.{state_of};
 ghost use Rattle.flt_dump.specs.Held.{SeesInto, number_of, number_told};
 ghost use Rattle.flt_dump.specs.Reads.{content_of};
@@ -11,10 +11,10 @@ use crate::listing::list;
 use flt_config::{ValidConfig, initial};
 use flt_fee::Fee;
 use flt_flash::{BlockFault, Blocks};
-use flt_generation::Place;
 use flt_image::{block_table, fee_numbers, laws};
 use flt_nvm::Nvm;
 use flt_restore::{CommitCopy, StartFault, judge};
+use flt_store_model::Place;
 use std::alloc::{AllocError, Global};
 
 /// What an image holds, and what it says line by line.

@@ -1,8 +1,9 @@
 //! The lines before the pages of a dump.
-ghost use Rattle.std.specs.Prelude.{◌≡◌, ◌==◌, None, IfNone, IfSome, position};
-ghost use Rattle.std.specs.Str.Lines.{strip_carriage_return};
+ghost use Rattle.std.specs.Prelude.{◌≡◌, None, IfNone, IfSome};
 ghost use Rattle.flt_dump.specs.Dump.{image_at, is_image};
 ghost use Rattle.flt_dump.specs.Lines.{IsImageLine};
+
+use flt_script::{place_of_feed, without_return};
 
 /// Where the line `image` of a dump stands.
 #[derive(Clone, Copy)]
@@ -15,26 +16,10 @@ pub(crate) struct ImageLine {
     pub(crate) behind: usize,
 }
 
-/// The line that a line feed ends, without a carriage return before that.
-pub(crate) fn without_return(line: &[u8]) -> &[u8]
-    ensures { result.now ≡ strip_carriage_return line.now }
-{
-    match line {
-        [body @ .., b'\r'] => body,
-        _ => line,
-    }
-}
-
 fn is_image(line: &[u8]) -> bool
     ensures { result ≡ is_image line.now }
 {
     matches!(line, b"image")
-}
-
-fn place_of_feed(text: &[u8]) -> Option<usize>
-    ensures { result ≡ position (λ byte. byte == 10) text.now }
-{
-    text.iter().position(|byte| *byte == b'\n')
 }
 
 /// Finds the first line `image` of a dump.

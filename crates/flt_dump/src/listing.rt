@@ -1,8 +1,8 @@
 //! What an image says line by line.
 ghost use Rattle.std.specs.Prelude.{◌≡◌, ◌++◌, ◌<◌, ◌≤◌, IfOk, OnOk};
 ghost use Rattle.flt_flash.specs.Image.{sector_at};
-ghost use Rattle.flt_sector.specs.Log.{log};
-ghost use Rattle.flt_generation.specs.Layout.{numbers};
+ghost use Rattle.flt_sector_model.specs.Log.{log};
+ghost use Rattle.flt_store_model.specs.Layout.{numbers};
 ghost use Rattle.flt_pages.specs.Told.{current_of};
 ghost use Rattle.flt_dump.specs.Copy.{state_of};
 ghost use Rattle.flt_dump.specs.Listing.{ending_text, listing_text, record_line, sector_line, torn_line};

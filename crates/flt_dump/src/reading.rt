@@ -2,7 +2,7 @@
 ghost use Rattle.std.specs.Prelude.{◌≡◌};
 ghost use Rattle.std.specs.List.{list_any};
 ghost use Rattle.flt_did.specs.Table.{dids_of};
-ghost use Rattle.flt_script.specs.Part.{part_of};
+ghost use Rattle.flt_step.specs.Part.{part_of};
 ghost use Rattle.flt_script.specs.Script.{content};
 ghost use Rattle.flt_script.specs.Gives.{IsAsDefined};
 ghost use Rattle.flt_dump.specs.Dump.{dump_of, has_begun, has_step};
@@ -12,7 +12,8 @@ use crate::dump::{Dump, DumpFault};
 use crate::lines::find_image;
 use crate::pages::{PagesFault, read_pages};
 use flt_did::{DID_ROWS, DidTable};
-use flt_script::{LineCause, ParseFault, Part, Script, ScriptFault, parse};
+use flt_script::{LineCause, ParseFault, Script, ScriptFault, parse};
+use flt_step::Part;
 use std::alloc::Global;
 
 /// Whether a part has a step.

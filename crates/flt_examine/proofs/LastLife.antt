@@ -18,28 +18,28 @@ use Rattle.flt_config.specs.Durable.{Fits}
 use Rattle.flt_config.specs.declared.config.Config.{Config}
 use Rattle.flt_config.specs.declared.config.DidUse.{DidUse}
 use Rattle.flt_config.specs.declared.persist.Persist.{Persist}
-use Rattle.flt_generation.specs.Holding.{Generation, Names}
-use Rattle.flt_generation.specs.Laws.{IsGiven}
-use Rattle.flt_generation.proofs.ImageLaws.{held_stands, spare_stands}
-use Rattle.flt_script.specs.Part.{PartOf}
+use Rattle.flt_store_model.specs.Holding.{Generation, Names}
+use Rattle.flt_store_model.specs.Laws.{IsGiven}
+use Rattle.flt_store_model.proofs.ImageLaws.{held_stands, spare_stands}
+use Rattle.flt_step.specs.Part.{PartOf}
 use Rattle.flt_script.specs.Script.{ScriptContent, script_of}
-use Rattle.flt_script.specs.Step.{are_parts_in}
-use Rattle.flt_script.specs.declared.step.Step.{Step}
+use Rattle.flt_step.specs.Step.{are_parts_in}
+use Rattle.flt_step.specs.declared.step.Step.{Step}
 use Rattle.flt_model.specs.declared.call.Op.{Op}
 use Rattle.flt_queue.specs.declared.job.QueueOp.{QueueOp}
 use Rattle.flt_turn.specs.declared.vault.Entry.{Entry}
-use Rattle.flt_life.specs.declared.life.Boot.{Boot}
-use Rattle.flt_life.specs.declared.life.Boot.TheVariants.{Started, Dark, Refused}
+use Rattle.flt_life_model.specs.declared.life.Boot.{Boot}
+use Rattle.flt_life_model.specs.declared.life.Boot.TheVariants.{Started, Dark, Refused}
 use Rattle.flt_restore.specs.declared.fault.StartFault.TheVariants as faults
-use Rattle.flt_life.specs.declared.life.Life.{Life}
-use Rattle.flt_life.specs.Chain.{AreLinked, IsFound, IsLifeBegunBy, IsLifeBetween, LifeView, start_from}
-use Rattle.flt_life.specs.Lives.{ArePlayed, AreEnded, IsLinked, lanes_told, lives_seen, own_told, view_of, views_of}
-use Rattle.flt_life.specs.Moment.{Medium, Moment, moment_at}
-use Rattle.flt_life.specs.Played.{IsLife, IsPlayed, IsPlayedBy}
-use Rattle.flt_life.specs.Statuses.{status_by, status_of_lives}
+use Rattle.flt_life_model.specs.declared.life.Life.{Life}
+use Rattle.flt_life_model.specs.Chain.{AreLinked, IsFound, IsLifeBegunBy, IsLifeBetween, LifeView, start_from}
+use Rattle.flt_life_model.specs.Lives.{ArePlayed, AreEnded, IsLinked, lanes_told, lives_seen, own_told, view_of, views_of}
+use Rattle.flt_life_model.specs.Moment.{Medium, Moment, moment_at}
+use Rattle.flt_life_model.specs.Played.{IsLife, IsPlayed, IsPlayedBy}
+use Rattle.flt_life_model.specs.Statuses.{status_by, status_of_lives}
 use Rattle.flt_lives.specs.Media.{sectors}
 use Rattle.flt_store.specs.Store.{numbered}
-use Rattle.flt_report.specs.Fetched.{read_of}
+use Rattle.flt_script.specs.Fetched.{read_of}
 use Rattle.flt_run.specs.Ending.{AreLived, EndingHasCause, Inside, IsTold, IsToldOf, WorksOn, lives_of, status_of}
 use Rattle.flt_run.specs.declared.command.Command.TheVariants.{Run}
 use Rattle.flt_run.specs.declared.running.Outcome.{Outcome}

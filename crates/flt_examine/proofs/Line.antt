@@ -6,17 +6,17 @@ use Rattle.flt_flash.specs.declared.memory.FlashMem.{FlashMem}
 use Rattle.flt_config.specs.declared.config.DidUse.{DidUse}
 use Rattle.flt_config.specs.declared.persist.Persist.{Persist}
 use Rattle.flt_script.specs.Script.{ScriptContent, content, script_of}
-use Rattle.flt_script.specs.Part.{PartOf, parts_of}
-use Rattle.flt_script.specs.declared.step.Step.{Step}
+use Rattle.flt_step.specs.Part.{PartOf, parts_of}
+use Rattle.flt_step.specs.declared.step.Step.{Step}
 use Rattle.flt_script.specs.declared.fault.ScriptFault.{ScriptFault}
 use Rattle.flt_script.specs.declared.script.Script.{Script}
-use Rattle.flt_script.specs.declared.step.Part.{Part}
-use Rattle.flt_script.specs.Step.{are_parts_in}
-use Rattle.flt_life.specs.Chain.{start_from}
-use Rattle.flt_life.specs.Lives.{lanes_told, own_told}
-use Rattle.flt_life.specs.Room.{told_in}
-use Rattle.flt_life.specs.declared.life.Life.{Life}
-use Rattle.flt_life.specs.declared.replies.LaneReplies.{LaneReplies}
+use Rattle.flt_step.specs.declared.step.Part.{Part}
+use Rattle.flt_step.specs.Step.{are_parts_in}
+use Rattle.flt_life_model.specs.Chain.{start_from}
+use Rattle.flt_life_model.specs.Lives.{lanes_told, own_told}
+use Rattle.flt_life_model.specs.Room.{told_in}
+use Rattle.flt_life_model.specs.declared.life.Life.{Life}
+use Rattle.flt_life_model.specs.declared.replies.LaneReplies.{LaneReplies}
 use Rattle.flt_run.specs.declared.running.Outcome.{Outcome}
 use Rattle.flt_trace.specs.Answered.{taken_text, with_lanes}
 use Rattle.flt_trace.specs.Laws.{CallsCanBeMade, ToldAnswersAreDue}

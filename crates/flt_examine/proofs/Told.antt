@@ -3,8 +3,8 @@ use Rattle.std.proofs.Common.{◌≡◌, ◌≢◌, ℕ, [], ◌∷◌, ◌++◌
 use Rattle.std.specs.Prelude.{codes}
 use Rattle.std.specs.Fmt.{decimal}
 use Rattle.flt_config.specs.declared.config.Config.{Config}
-use Rattle.flt_generation.specs.Holding.{Generation, Fault, damaged, other}
-use Rattle.flt_life.specs.declared.life.Boot.TheVariants.{Refused}
+use Rattle.flt_store_model.specs.Holding.{Generation, Fault, damaged, other}
+use Rattle.flt_life_model.specs.declared.life.Boot.TheVariants.{Refused}
 use Rattle.flt_report.specs.Boot.{boot_text}
 use Rattle.flt_restore.specs.Judging.{told_as}
 use Rattle.flt_restore.specs.declared.fault.StartFault.{StartFault}

@@ -3,15 +3,16 @@ use Rattle.std.specs.Prelude.{◌≡◌, ℕ, List, [], ◌∷◌, ◌++◌, Res
 use Rattle.std.specs.Fmt.{decimal}
 use Rattle.flt_config.specs.declared.config.Config.{Config}
 use Rattle.flt_config.specs.declared.config.DidUse.{DidUse}
-use Rattle.flt_generation.specs.Holding.{Generation}
-use Rattle.flt_generation.specs.Holding as holding
-use Rattle.flt_generation.specs.Layout.{numbers}
-use Rattle.flt_life.specs.declared.life.Boot.{Boot}
-use Rattle.flt_life.specs.declared.life.Boot.TheVariants.{Started, Refused}
-use Rattle.flt_report.specs.Boot.{boot_text, script_fault_line}
+use Rattle.flt_store_model.specs.Holding.{Generation}
+use Rattle.flt_store_model.specs.Holding as holding
+use Rattle.flt_store_model.specs.Layout.{numbers}
+use Rattle.flt_life_model.specs.declared.life.Boot.{Boot}
+use Rattle.flt_life_model.specs.declared.life.Boot.TheVariants.{Started, Refused}
+use Rattle.flt_report.specs.Boot.{boot_text}
+use Rattle.flt_script.specs.Fault.{script_fault_line}
 use Rattle.flt_restore.specs.Judging.{told_as}
 use Rattle.flt_script.specs.declared.fault.ScriptFault.{ScriptFault}
-use Rattle.flt_whole.specs.Image.{image_held}
+use Rattle.flt_store_model.specs.Image.{image_held}
 use Rattle.flt_filter.specs.Verdict.{Due, line_due}
 use Rattle.flt_dump.specs.Dump.{DumpContent, Fault, no_script, begun, no_page, dump_of}
 use Rattle.flt_dump.specs.Listing.{listing_text}

@@ -7,10 +7,10 @@ use Rattle.flt_config.specs.declared.config.DidUse.{DidUse}
 use Rattle.flt_config.specs.declared.persist.Persist.{Persist}
 use Rattle.flt_config.specs.Durable.{Fits}
 use Rattle.flt_script.specs.Script.{ScriptContent, script_of}
-use Rattle.flt_script.specs.Step.{are_parts_in}
+use Rattle.flt_step.specs.Step.{are_parts_in}
 use Rattle.flt_turn.specs.Journal.{ops_of}
-use Rattle.flt_life.specs.declared.life.Boot.TheVariants.{Started}
-use Rattle.flt_life.specs.declared.life.Life.{Life}
+use Rattle.flt_life_model.specs.declared.life.Boot.TheVariants.{Started}
+use Rattle.flt_life_model.specs.declared.life.Life.{Life}
 use Rattle.flt_trace.specs.Trace.{Texts, trace_data, trace_line}
 use Rattle.flt_trace.specs.Base.{IsBaseOf}
 use Rattle.flt_trace.specs.Call.{AreCallTexts, CanBeMade}

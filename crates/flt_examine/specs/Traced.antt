@@ -8,8 +8,8 @@ use Rattle.flt_flash.specs.declared.memory.FlashMem.{FlashMem}
 use Rattle.flt_config.specs.declared.config.Config.{Config}
 use Rattle.flt_config.specs.declared.config.DidUse.{DidUse}
 use Rattle.flt_config.specs.declared.persist.Persist.{Persist}
-use Rattle.flt_life.specs.declared.life.Boot.TheVariants.{Started}
-use Rattle.flt_life.specs.declared.life.Life.{Life}
+use Rattle.flt_life_model.specs.declared.life.Boot.TheVariants.{Started}
+use Rattle.flt_life_model.specs.declared.life.Life.{Life}
 use Rattle.flt_lives.specs.Media.{sectors}
 use Rattle.flt_run.specs.declared.command.Command.TheVariants.{Run}
 use Rattle.flt_run.specs.declared.running.Outcome.{Outcome}

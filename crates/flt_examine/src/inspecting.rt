@@ -4,7 +4,7 @@ ghost use Rattle.std.specs.Fmt.{decimal};
 ghost use Rattle.flt_config.specs.declared.config.Config.{Config};
 ghost use Rattle.flt_io.specs.Status.{number_of};
 ghost use Rattle.flt_did.specs.Table.{dids_of};
-ghost use Rattle.flt_generation.specs.Holding.{Generation, Fault};
+ghost use Rattle.flt_store_model.specs.Holding.{Generation, Fault};
 ghost use Rattle.flt_restore.specs.declared.fault.StartFault.TheVariants as faults;
 ghost use Rattle.flt_report.specs.Boot.{boot_text};
 ghost use Rattle.flt_filter.specs.Verdict.{Tells, due_of, line_due, reading_of, writing_of};
@@ -16,9 +16,9 @@ use flt_did::{DID_ROWS, DidTable};
 use flt_dump::{Dump, DumpFault, Insight, look_into, read_dump};
 use flt_filter::{Judge, Verdict, answer};
 use flt_io::{Sink, Source, Status};
-use flt_report::{put_refused, put_script_fault};
+use flt_report::put_refused;
 use flt_restore::StartFault;
-use flt_script::ScriptFault;
+use flt_script::{ScriptFault, put_script_fault};
 use std::alloc::{AllocError, Global};
 
 /// What is reported about bytes that are not a script.

@@ -16,7 +16,7 @@ use flt_fee::Fee;
 use flt_filter::Verdict;
 use flt_flash::FlashMem;
 use flt_io::{Discard, Status};
-use flt_life::{Boot, Life};
+use flt_life_model::{Boot, Life};
 use flt_run::{Command, OpenGate, Outcome, run};
 use flt_script::{ParseFault, Script, parse};
 use flt_trace::laws::{calls_can_be_made, told_answers_are_due};

@@ -12,7 +12,7 @@ use Rattle.flt_flash.specs.declared.blocks.BlockFault.{BlockFault}
 use Rattle.flt_flash.specs.declared.blocks.BlockFault.TheVariants.{Flash, Damaged}
 use Rattle.flt_pages.specs.Blank.{AreBlank}
 use Rattle.flt_flash.specs.Blocks.{byte_pages}
-use Rattle.flt_sector.specs.Blocks.{current, first_fault, block_value}
+use Rattle.flt_sector_model.specs.Blocks.{current, first_fault, block_value}
 use Rattle.flt_pages.specs.LogHolds.{asked_of, given, StandsAt}
 use Rattle.flt_pages.proofs.LogOn.{blank_behind}
 use Rattle.flt_fee.specs.Fee.{is_last, state_by}

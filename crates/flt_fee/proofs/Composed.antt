@@ -2,7 +2,7 @@
 use Rattle.std.proofs.Common.{◌≡◌, ℕ, Bool, true, List, Some, None, refl, ◌∙◌, ap, arith}
 use Rattle.flt_flash.specs.State.{FlashState, MakesOperations}
 use Rattle.flt_flash.specs.Calls.{Follows}
-use Rattle.flt_sector.specs.Blocks.{current, first_fault, block_value}
+use Rattle.flt_sector_model.specs.Blocks.{current, first_fault, block_value}
 use Rattle.flt_fee.specs.Fee.{is_last, state_by}
 
 module _ (used : ℕ) (numbers : List ℕ) (before after : FlashState) (runs : MakesOperations before after) (was_stale had_mounted is_stale has_mounted : Bool) where

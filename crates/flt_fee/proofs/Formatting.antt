@@ -8,7 +8,7 @@ use Rattle.flt_flash.specs.Calls.{Calls, SameSpent, SameValues}
 use Rattle.flt_flash.specs.declared.blocks.BlockFault.{BlockFault}
 use Rattle.flt_flash.proofs.Answering.{sound_calls}
 use Rattle.flt_flash.specs.declared.blocks.BlockFault.TheVariants.{Flash, Damaged}
-use Rattle.flt_sector.specs.Blocks.{current, first_fault, fault_by, value_by, block_value}
+use Rattle.flt_sector_model.specs.Blocks.{current, first_fault, fault_by, value_by, block_value}
 use Rattle.flt_pages.proofs.Begun.{holds_nothing}
 use Rattle.flt_fee.specs.Fee.{is_last, state_by}
 use Rattle.flt_pages.specs.LogHolds.{StandsAt}

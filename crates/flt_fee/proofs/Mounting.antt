@@ -6,8 +6,8 @@ use Rattle.flt_flash.specs.State.{FlashState, OnlyReads}
 use Rattle.flt_flash.specs.Blocks.{BlocksState}
 use Rattle.flt_flash.specs.Calls.{Follows}
 use Rattle.flt_flash.specs.declared.blocks.BlockFault.{BlockFault}
-use Rattle.flt_sector.specs.Log.{LogFrom, log}
-use Rattle.flt_sector.specs.Blocks.{Current, current, first_fault, fault_by, place_in}
+use Rattle.flt_sector_model.specs.Log.{LogFrom, log}
+use Rattle.flt_sector_model.specs.Blocks.{Current, current, first_fault, fault_by, place_in}
 use Rattle.flt_pages.specs.declared.sectors.CurrentSector.{CurrentSector}
 use Rattle.flt_pages.specs.Told.{TellsOrFails, current_of, told_current, told_end}
 use Rattle.flt_fee.specs.Fee.{is_last, is_past, state_by}

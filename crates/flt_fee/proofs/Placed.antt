@@ -8,7 +8,7 @@ use Rattle.flt_flash.specs.declared.blocks.Found.TheVariants.{Bytes}
 use Rattle.flt_flash.specs.Content.{Content, bytes, size_of}
 use Rattle.flt_flash.specs.Blocks.{byte_pages, live_pages}
 use Rattle.flt_flash.specs.State.{FlashState, HasShape}
-use Rattle.flt_sector.specs.Blocks.{current, block_value, value_by}
+use Rattle.flt_sector_model.specs.Blocks.{current, block_value, value_by}
 use Rattle.flt_pages.specs.declared.place.RecordPlace.{RecordPlace}
 use Rattle.flt_pages.specs.LogHolds.{asked_of, given, StandsAt}
 use Rattle.flt_pages.specs.Live.{held_in}

@@ -7,7 +7,7 @@ use Rattle.flt_flash.specs.Image.{sector_at}
 use Rattle.flt_flash.specs.State.{FlashState}
 use Rattle.flt_flash.specs.Blocks.{BlocksState, live_pages, pages_of, record_pages}
 use Rattle.flt_flash.specs.declared.blocks.BlockFault.TheVariants.{Full, SequenceSpent}
-use Rattle.flt_sector.specs.Blocks.{Current, current, value_by}
+use Rattle.flt_sector_model.specs.Blocks.{Current, current, value_by}
 use Rattle.flt_pages.specs.Live.{current_pages}
 use Rattle.flt_pages.proofs.Counting.{live_within, log_within}
 use Rattle.flt_fee.specs.Fee.{is_last, is_past, state_by}

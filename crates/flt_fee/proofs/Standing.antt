@@ -5,9 +5,9 @@ use Rattle.std.specs.List.{list_any}
 use Rattle.std.proofs.lemmas.Bool.{cases_eq}
 use Rattle.flt_flash.specs.Image.{sector_at}
 use Rattle.flt_flash.specs.Content.{Content}
-use Rattle.flt_sector.specs.Log.{LogFrom, log}
-use Rattle.flt_sector.specs.Gates.{gate_by, started_by, activated_by, both_gates, gates_of}
-use Rattle.flt_sector.specs.Blocks.{current, current_by, first_fault, fault_by, place_in, block_value, value_by, content_of, last_complete}
+use Rattle.flt_sector_model.specs.Log.{LogFrom, log}
+use Rattle.flt_sector_model.specs.Gates.{gate_by, started_by, activated_by, both_gates, gates_of}
+use Rattle.flt_sector_model.specs.Blocks.{current, current_by, first_fault, fault_by, place_in, block_value, value_by, content_of, last_complete}
 use Rattle.flt_pages.specs.Record.{KeptApart, IsWhole, RecordLeft}
 use Rattle.flt_pages.specs.LogHolds.{StandsAt, LogHolds, asked_of, given}
 use Rattle.flt_fee.specs.Mounted.{IsMounted}

@@ -5,7 +5,7 @@ use Rattle.flt_flash.specs.Blocks.{BlocksState}
 use Rattle.flt_flash.specs.Calls.{Calls, NoFault}
 use Rattle.flt_flash.specs.declared.blocks.BlockFault.{BlockFault}
 use Rattle.flt_flash.specs.declared.blocks.BlockFault.TheVariants.{Flash, Full, SequenceSpent, Damaged}
-use Rattle.flt_sector.specs.Blocks.{Current, current}
+use Rattle.flt_sector_model.specs.Blocks.{Current, current}
 use Rattle.flt_fee.specs.Wear.{IsEven, StaysEven, UnlessFlash}
 
 -- The same current sector, and no erase.

@@ -5,7 +5,7 @@ use Rattle.flt_flash.specs.Blocks.{BlocksState}
 use Rattle.flt_flash.specs.declared.blocks.BlockFault.{BlockFault}
 use Rattle.flt_flash.specs.declared.blocks.BlockFault.TheVariants.{Full, SequenceSpent}
 use Rattle.flt_code.specs.declared.words.Word.TheVariants.{Head, Gate}
-use Rattle.flt_sector.specs.Example.{says, piece, sector_of, valid_sector}
+use Rattle.flt_sector_model.specs.Example.{says, piece, sector_of, valid_sector}
 use Rattle.flt_fee.specs.Fee.{state_by}
 use Rattle.flt_fee.specs.Refusal.{refusal}
 

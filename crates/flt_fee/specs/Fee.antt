@@ -3,8 +3,8 @@ use Rattle.std.specs.Prelude.{◌+◌, ◌-◌, ◌^◌, ◌==◌, ◌&&◌, ℕ
 use Rattle.flt_flash.specs.Image.{sector_at}
 use Rattle.flt_flash.specs.State.{FlashState}
 use Rattle.flt_flash.specs.Blocks.{BlocksState, device_of, record_pages, recounted}
-use Rattle.flt_sector.specs.Blocks.{Current, current, first_fault, block_value}
-use Rattle.flt_sector.specs.Log.{log}
+use Rattle.flt_sector_model.specs.Blocks.{Current, current, first_fault, block_value}
+use Rattle.flt_sector_model.specs.Log.{log}
 use Rattle.flt_fee.specs.declared.fee.Fee.{Fee}
 
 -- The sequence number of the current sector is the last one.

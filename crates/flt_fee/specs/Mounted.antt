@@ -1,8 +1,8 @@
 -- What a driver knows of its image while it is not stale.
 use Rattle.std.specs.Prelude.{◌≡◌, ℕ, Bool, true, false, List, Some, None, Ok}
 use Rattle.flt_flash.specs.Image.{sector_at}
-use Rattle.flt_sector.specs.Blocks.{current, first_fault}
-use Rattle.flt_sector.specs.Log.{log}
+use Rattle.flt_sector_model.specs.Blocks.{current, first_fault}
+use Rattle.flt_sector_model.specs.Log.{log}
 
 -- The current sector is the one that the driver keeps, and its log ends where the driver says, without a fault.
 pub record IsMounted (is_stale has_mounted : Bool) (used : ℕ) (numbers : List ℕ) (image : List (List (List ℕ))) (sector sequence end : ℕ) : Type 0 where

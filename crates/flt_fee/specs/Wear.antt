@@ -3,7 +3,7 @@ use Rattle.std.specs.Prelude.{◌≡◌, ◌+◌, ◌-◌, ◌≤◌, ℕ, List,
 use Rattle.flt_flash.specs.State.{FlashState}
 use Rattle.flt_flash.specs.declared.blocks.BlockFault.{BlockFault}
 use Rattle.flt_flash.specs.declared.blocks.BlockFault.TheVariants.{Flash, Full, SequenceSpent, Damaged}
-use Rattle.flt_sector.specs.Blocks.{Current, current}
+use Rattle.flt_sector_model.specs.Blocks.{Current, current}
 
 -- The current sector was erased as often as the other one, or once more; where no sector is valid both were as often.
 abbrev pub IsEven : Result (Option Current) (ℕ × ℕ) → List ℕ → Type 0

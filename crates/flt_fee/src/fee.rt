@@ -9,7 +9,7 @@ ghost use Rattle.flt_flash.specs.Blocks.{byte_pages, device_of, live_pages, reco
 ghost use Rattle.flt_flash.specs.Calls.{Calls, CountsCall, Changes, Costs, ReadsContent, NoFault, NeverFull, ReadCosts, SameImage, SameSpent, SameValues, Settles};
 ghost use Rattle.flt_flash.specs.declared.blocks.BlockFault.TheVariants.{Full, SequenceSpent};
 ghost use Rattle.flt_code.specs.Word.{is_length};
-ghost use Rattle.flt_sector.specs.Blocks.{current, block_value};
+ghost use Rattle.flt_sector_model.specs.Blocks.{current, block_value};
 ghost use Rattle.flt_pages.specs.LogHolds.{asked_of};
 ghost use Rattle.flt_pages.specs.Switch.{Erases};
 ghost use Rattle.flt_pages.specs.RecordPlace.{IsAt, TellsPlaces};

@@ -5,7 +5,7 @@ use Rattle.std.specs.List.{range_with_len}
 use Rattle.std.proofs.lemmas.Bool.{cases_eq}
 use Rattle.std.proofs.lemmas.List.{get_or-set_same, get_or-set_other, get_or_default, same_lists}
 use Rattle.std.proofs.lemmas.List.FromFn.{get_or-map-range_with_len, length-map-range_with_len}
-use Rattle.flt_generation.specs.Layout.{parts, end_part}
+use Rattle.flt_store_model.specs.Layout.{parts, end_part}
 
 -- One index more is set.
 pub index_more : (Is : ℕ → ℕ → Type 0) (index : List ℕ) (id value : ℕ) → length index ≡ parts → 3 ≤ id → id < end_part

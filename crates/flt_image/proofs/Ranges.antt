@@ -5,8 +5,8 @@ use Rattle.std.specs.List.{range_with_len}
 use Rattle.std.proofs.lemmas.List.{append_assoc, flat_map_more}
 use Rattle.std.proofs.lemmas.List.Elements.{filter-append}
 use Rattle.std.proofs.lemmas.List.FromFn.{map-range_with_len_more}
-use Rattle.flt_generation.specs.Layout.{number_of, both_indices, application_number}
-use Rattle.flt_generation.proofs.Choices.{range_more}
+use Rattle.flt_store_model.specs.Layout.{number_of, both_indices, application_number}
+use Rattle.flt_store_model.proofs.Choices.{range_more}
 
 pub one_more : (test : ℕ → Bool) (first count next : ℕ) → first + count ≡ next
     → filter test (range_with_len first count) ++ filter test (next ∷ []) ≡ filter test (range_with_len first (count + 1))

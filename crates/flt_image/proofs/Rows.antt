@@ -10,7 +10,7 @@ use Rattle.std.proofs.lemmas.List.FromFn.{map-range_with_len_more}
 use Rattle.flt_nvm.specs.declared.table.Kind.{Kind}
 use Rattle.flt_nvm.specs.declared.table.BlockCfg.{BlockCfg}
 use Rattle.flt_nvm.specs.Table.{serves}
-use Rattle.flt_generation.specs.Layout.{numbers}
+use Rattle.flt_store_model.specs.Layout.{numbers}
 use Rattle.flt_image.specs.Table.{row, rows, block_table}
 
 -- No row, and one row more.

@@ -5,14 +5,14 @@ use Rattle.flt_config.specs.declared.config.Config.{Config}
 use Rattle.flt_config.specs.declared.persist.Persist.{Persist}
 use Rattle.flt_config.specs.declared.persist.EntryState.{EntryState}
 use Rattle.flt_config.specs.Durable.{Fits, IsEntryOf}
-use Rattle.flt_generation.specs.declared.part.Part.{Part}
-use Rattle.flt_generation.specs.declared.part.Part.TheVariants.{Summary, States, Entry}
-use Rattle.flt_generation.specs.Form.{place_bytes, part_bytes, part_length}
-use Rattle.flt_generation.specs.Laws.{IsGiven}
+use Rattle.flt_store_model.specs.declared.part.Part.{Part}
+use Rattle.flt_store_model.specs.declared.part.Part.TheVariants.{Summary, States, Entry}
+use Rattle.flt_store_model.specs.Form.{place_bytes, part_bytes, part_length}
+use Rattle.flt_store_model.specs.Laws.{IsGiven}
 use Rattle.flt_image.specs.Blocks.{longest}
-use Rattle.flt_generation.proofs.Sizes.{summary_size, states_size, entry_size, no_entry_size}
-use Rattle.flt_generation.proofs.Short.{entry_sizes}
-use Rattle.flt_generation.proofs.ImageLaws.{sizes_of}
+use Rattle.flt_store_model.proofs.Sizes.{summary_size, states_size, entry_size, no_entry_size}
+use Rattle.flt_store_model.proofs.Short.{entry_sizes}
+use Rattle.flt_store_model.proofs.ImageLaws.{sizes_of}
 
 -- No part is longer than an entry.
 pub part_short : (part : Part) → part_length part ≤ longest

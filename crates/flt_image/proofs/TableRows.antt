@@ -6,9 +6,9 @@ use Rattle.flt_nvm.specs.declared.table.Kind.{Kind}
 use Rattle.flt_nvm.specs.declared.table.Kind.TheVariants.{Native, Redundant, Dataset}
 use Rattle.flt_nvm.specs.declared.table.BlockCfg.{BlockCfg}
 use Rattle.flt_nvm.specs.Table.{block_in}
-use Rattle.flt_generation.specs.Layout.{mark_id, commit_id, first_part, end_part, parts, first_application, applications, part_of}
-use Rattle.flt_generation.specs.Form.{part_length}
-use Rattle.flt_generation.proofs.Choices.{all_at}
+use Rattle.flt_store_model.specs.Layout.{mark_id, commit_id, first_part, end_part, parts, first_application, applications, part_of}
+use Rattle.flt_store_model.specs.Form.{part_length}
+use Rattle.flt_store_model.proofs.Choices.{all_at}
 use Rattle.flt_image.specs.Table.{row, rows, block_table}
 
 abbrev is_dataset : Kind → Bool

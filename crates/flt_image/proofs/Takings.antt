@@ -11,16 +11,16 @@ use Rattle.flt_config.specs.declared.persist.Persist.{Persist}
 use Rattle.flt_config.specs.declared.persist.EventState.{EventState}
 use Rattle.flt_config.specs.declared.persist.EntryState.{EntryState}
 use Rattle.flt_config.specs.Durable.{AreStatesOf, IsStateOf, IsEntryOf, start_state, is_of_event}
-use Rattle.flt_generation.specs.declared.part.Part.{Part}
-use Rattle.flt_generation.specs.declared.part.Part.TheVariants.{Summary, States, Entry}
-use Rattle.flt_generation.specs.Form.{summary_bytes, state_bytes, first_states, states_bytes, entry_bytes, no_entry_bytes, place_bytes, part_bytes}
-use Rattle.flt_generation.specs.Fit.{state_fits_at, states_fit, entry_fits_at, is_alone, place_fits, summary_fits, part_fits}
-use Rattle.flt_generation.specs.Reading.{state_from, with_states, entry_from, with_summary, with_part, taken}
-use Rattle.flt_generation.proofs.Choices.{all_from}
-use Rattle.flt_generation.proofs.Fitting.{test_of_state, entry_by_test, test_of_entry, noted_by_test, test_of_noted}
-use Rattle.flt_generation.proofs.States.{first_states_more, no_states, with_states_more, state_set, length-with_states}
-use Rattle.flt_generation.proofs.Sizes.{set_here, none_here, refused_by_bytes, refused_by_fit, accepted, taken_holds}
-use Rattle.flt_generation.proofs.Parts.{state_passes}
+use Rattle.flt_store_model.specs.declared.part.Part.{Part}
+use Rattle.flt_store_model.specs.declared.part.Part.TheVariants.{Summary, States, Entry}
+use Rattle.flt_store_model.specs.Form.{summary_bytes, state_bytes, first_states, states_bytes, entry_bytes, no_entry_bytes, place_bytes, part_bytes}
+use Rattle.flt_store_model.specs.Fit.{state_fits_at, states_fit, entry_fits_at, is_alone, place_fits, summary_fits, part_fits}
+use Rattle.flt_store_model.specs.Reading.{state_from, with_states, entry_from, with_summary, with_part, taken}
+use Rattle.flt_store_model.proofs.Choices.{all_from}
+use Rattle.flt_store_model.proofs.Fitting.{test_of_state, entry_by_test, test_of_entry, noted_by_test, test_of_noted}
+use Rattle.flt_store_model.proofs.States.{first_states_more, no_states, with_states_more, state_set, length-with_states}
+use Rattle.flt_store_model.proofs.Sizes.{set_here, none_here, refused_by_bytes, refused_by_fit, accepted, taken_holds}
+use Rattle.flt_store_model.proofs.Parts.{state_passes}
 use Rattle.flt_image.specs.Taking.{TakesIn, block_states, no_state, summed_up, IsSummaryOf}
 
 -- An answer, by what is taken.

@@ -2,8 +2,8 @@
 use Rattle.std.specs.Prelude.{◌≡◌, ℕ, ◌-◌, List, [], length, slice_index_or, IsTrue}
 use Rattle.flt_config.specs.declared.config.Config.{Config}
 use Rattle.flt_config.specs.declared.persist.Persist.{Persist}
-use Rattle.flt_generation.specs.Layout.{first_part, part_of, is_used}
-use Rattle.flt_generation.specs.Form.{block_bytes, part_length}
+use Rattle.flt_store_model.specs.Layout.{first_part, part_of, is_used}
+use Rattle.flt_store_model.specs.Form.{block_bytes, part_length}
 use Rattle.flt_image.specs.declared.blocks.TheConstants.{LONGEST}
 use Rattle.flt_image.specs.declared.blocks.StateBlocks.{StateBlocks}
 

@@ -5,7 +5,7 @@ use Rattle.flt_config.specs.declared.config.Config.{Config}
 use Rattle.flt_config.specs.declared.persist.Persist.{Persist}
 use Rattle.flt_config.specs.declared.persist.EventState.{EventState}
 use Rattle.flt_config.specs.Durable.{start_state, IsNoted}
-use Rattle.flt_generation.specs.Reading.{state_from}
+use Rattle.flt_store_model.specs.Reading.{state_from}
 
 -- True and the state with the part, where there is one; false and the state as it was, where there is none.
 abbrev pub TakesIn : Option Persist → Bool → Persist → Persist → Type 0

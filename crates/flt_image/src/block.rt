@@ -1,9 +1,9 @@
 //! The blocks of a generation, written and read.
 ghost use Rattle.std.specs.Prelude.{◌≡◌, ◌≤◌, IsTrue, length};
 ghost use Rattle.flt_config.specs.Durable.{Fits};
-ghost use Rattle.flt_generation.specs.Form.{block_bytes, part_length};
-ghost use Rattle.flt_generation.specs.Layout.{is_used, part_of};
-ghost use Rattle.flt_generation.specs.Reading.{taken};
+ghost use Rattle.flt_store_model.specs.Form.{block_bytes, part_length};
+ghost use Rattle.flt_store_model.specs.Layout.{is_used, part_of};
+ghost use Rattle.flt_store_model.specs.Reading.{taken};
 ghost use Rattle.flt_image.specs.Taking.{TakesIn};
 
 use crate::entry::{put_place, take_entry};
@@ -12,7 +12,7 @@ use crate::pushing::{BlockBytes, push_all};
 use crate::states::{put_states, take_states};
 use crate::summary::{summary_bytes, take_summary};
 use flt_config::{Persist, ValidConfig};
-use flt_generation::Part;
+use flt_store_model::Part;
 
 /// Puts the bytes of a used block of a state that fits in place of what `out` held: those of the summary, of the states of
 /// some events, or of an entry.

@@ -1,15 +1,15 @@
 //! The bytes of the used blocks of a state, kept beside each other.
 ghost use Rattle.std.specs.Prelude.{◌≡◌, ◌≤◌, IsTrue, length};
 ghost use Rattle.flt_config.specs.Durable.{Fits};
-ghost use Rattle.flt_generation.specs.Form.{block_bytes, part_length};
-ghost use Rattle.flt_generation.specs.Layout.{is_used, part_of, parts};
+ghost use Rattle.flt_store_model.specs.Form.{block_bytes, part_length};
+ghost use Rattle.flt_store_model.specs.Layout.{is_used, part_of, parts};
 
 use crate::block::put_block;
 use crate::layout::is_used;
 use crate::pushing::BlockBytes;
 use arrayvec::ArrayVec;
 use flt_config::{Persist, ValidConfig};
-use flt_generation::{END_PART, ENTRY_LENGTH, FIRST_PART, INDICES};
+use flt_store_model::{END_PART, ENTRY_LENGTH, FIRST_PART, INDICES};
 
 /// The most bytes of a block of a state: those of an entry.
 pub const LONGEST: usize = ENTRY_LENGTH;
@@ -35,7 +35,7 @@ fn put_over(bytes: &[u8], kept: &mut KeptBytes)
 
 impl StateBlocks {
     ghost use Rattle.std.specs.Prelude.{◌≢◌, ◌<◌, ℕ, []};
-    ghost use Rattle.flt_generation.specs.Layout.{first_part, end_part};
+    ghost use Rattle.flt_store_model.specs.Layout.{first_part, end_part};
     ghost use Rattle.flt_image.specs.Blocks.{bytes_at, AreBlocksOf};
 
     /// No block is known.

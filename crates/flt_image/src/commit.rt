@@ -2,17 +2,17 @@
 ghost use Rattle.std.specs.Prelude.{◌≡◌, ◌≢◌, ℕ, ◌<◌, ◌≤◌, ◌+◌, ◌==◌, IfSome, Some, List, length, bytes_eq, slice_index, slice_range, IsTrue, IsFalse};
 ghost use Rattle.std.specs.Int.{from_be_bytes, w32};
 ghost use Rattle.std.specs.List.{list_all, range_with_len};
-ghost use Rattle.flt_generation.specs.Form.{commit_length, commit_length_2, index_bit, packed, commit_bytes, commit_bytes_1, HasNoLater};
-ghost use Rattle.flt_generation.specs.Holding.{last_number};
-ghost use Rattle.flt_generation.specs.Layout.{first_part, parts, end_part, index_in};
-ghost use Rattle.flt_generation.specs.Reading.{commit_from, commit_from_1, bit_in, index_by_bit, if_commit, commit_in, is_index, is_commit};
-ghost use Rattle.flt_generation.specs.Successor.{IsNext, IsNextIndex, number_in};
+ghost use Rattle.flt_store_model.specs.Form.{commit_length, commit_length_2, index_bit, packed, commit_bytes, commit_bytes_1, HasNoLater};
+ghost use Rattle.flt_store_model.specs.Holding.{last_number};
+ghost use Rattle.flt_store_model.specs.Layout.{first_part, parts, end_part, index_in};
+ghost use Rattle.flt_store_model.specs.Reading.{commit_from, commit_from_1, bit_in, index_by_bit, if_commit, commit_in, is_index, is_commit};
+ghost use Rattle.flt_store_model.specs.Successor.{IsNext, IsNextIndex, number_in};
 ghost use Rattle.flt_image.specs.Blocks.{bytes_at};
 
 use crate::blocks::StateBlocks;
 use crate::layout::is_used;
 use flt_config::ValidConfig;
-use flt_generation::{
+use flt_store_model::{
     COMMIT_LENGTH, COMMIT_LENGTH_2, Commit, END_PART, FIRST_INDICES, FIRST_PART, INDICES,
 };
 
@@ -44,7 +44,7 @@ fn packed(index: &[u8; INDICES], place: usize) -> u8
 
 /// The bytes of a commit in version 2, which is written: 02, the number of the generation in four bytes, big-endian, and 40 bits. Bit
 /// `i`, of byte `i / 8` of the five, from the lowest on, is 1 where the block `3 + i` is named at index 1; the bits 33 to 39 are 0.
-#[tactic(auto, unfolding(flt_generation::specs::Form::commit_bytes))]
+#[tactic(auto, unfolding(flt_store_model::specs::Form::commit_bytes))]
 pub fn put_commit(commit: &Commit) -> [u8; COMMIT_LENGTH_2]
     ensures { result ≡ commit_bytes commit.now }
 {
@@ -60,7 +60,7 @@ pub fn put_commit(commit: &Commit) -> [u8; COMMIT_LENGTH_2]
     [2, a, b, c, d, bits[0], bits[1], bits[2], bits[3], bits[4]]
 }
 
-#[tactic(auto, unfolding(flt_generation::specs::Form::commit_bytes_1))]
+#[tactic(auto, unfolding(flt_store_model::specs::Form::commit_bytes_1))]
 fn first_version(commit: &Commit) -> [u8; COMMIT_LENGTH]
     ensures { result ≡ commit_bytes_1 commit.now }
 {
@@ -166,7 +166,7 @@ fn has_indices(config: &ValidConfig, commit: &Commit) -> bool
     )
 }
 
-#[tactic(auto, unfolding(flt_generation::specs::Reading::is_commit))]
+#[tactic(auto, unfolding(flt_store_model::specs::Reading::is_commit))]
 fn is_commit(config: &ValidConfig, commit: &Commit) -> bool
     ensures { result ≡ is_commit config.now commit.now }
 {
@@ -184,7 +184,7 @@ fn generation_in(bytes: &[u8]) -> u32
 }
 
 /// The commit whose numbers stand in these bytes of version 1.
-#[tactic(auto, unfolding(flt_generation::specs::Reading::commit_from_1))]
+#[tactic(auto, unfolding(flt_store_model::specs::Reading::commit_from_1))]
 fn commit_from_1(bytes: &[u8]) -> Commit
     requires { length bytes.now ≡ commit_length }
     ensures { result ≡ commit_from_1 bytes.now }
@@ -221,7 +221,7 @@ fn index_by_bit(config: &ValidConfig, bytes: &[u8], id: u16) -> u8
 }
 
 /// The commit whose numbers stand in these bytes of version 2.
-#[tactic(auto, unfolding(flt_generation::specs::Reading::commit_from))]
+#[tactic(auto, unfolding(flt_store_model::specs::Reading::commit_from))]
 fn commit_from(config: &ValidConfig, bytes: &[u8]) -> Commit
     requires { length bytes.now ≡ commit_length_2 }
     ensures { result ≡ commit_from config.now bytes.now }
@@ -274,7 +274,7 @@ fn is_version_1(bytes: &[u8]) -> bool
 /// The commit of which these are the bytes in one of the two versions, and none exactly where they are those of no commit of this
 /// configuration: its number is at least 1, and each used block has the index 0 or 1, each other one 0xFF. A configuration of more than
 /// 64 events has none of version 1.
-#[tactic(auto, unfolding(flt_generation::specs::Reading::commit_in))]
+#[tactic(auto, unfolding(flt_store_model::specs::Reading::commit_in))]
 pub fn get_commit(config: &ValidConfig, bytes: &[u8]) -> Option<Commit>
     ensures { result ≡ commit_in config.now bytes.now }
 {

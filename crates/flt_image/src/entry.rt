@@ -1,15 +1,15 @@
 //! The entry at a place.
 ghost use Rattle.std.specs.Prelude.{◌≡◌, ◌+◌, ◌<◌, ◌≤◌, ◌++◌, length, slice_get, slice_set, bytes_eq};
-ghost use Rattle.flt_generation.specs.declared.part.Part.TheVariants.{Entry};
-ghost use Rattle.flt_generation.specs.Fit.{is_alone};
-ghost use Rattle.flt_generation.specs.Form.{entry_length, padded, entry_bytes, no_entry_bytes, place_bytes};
-ghost use Rattle.flt_generation.specs.Reading.{frame_at, entry_from, taken};
+ghost use Rattle.flt_store_model.specs.declared.part.Part.TheVariants.{Entry};
+ghost use Rattle.flt_store_model.specs.Fit.{is_alone};
+ghost use Rattle.flt_store_model.specs.Form.{entry_length, padded, entry_bytes, no_entry_bytes, place_bytes};
+ghost use Rattle.flt_store_model.specs.Reading.{frame_at, entry_from, taken};
 ghost use Rattle.flt_image.specs.Taking.{TakesIn};
 
 use crate::pushing::{BlockBytes, push_all, push_zeros, word_at};
 use arrayvec::ArrayVec;
 use flt_config::{ENTRIES, EntryState, FRAME, Frame, Persist, ValidConfig, is_entry_of, place_of};
-use flt_generation::ENTRY_LENGTH;
+use flt_store_model::ENTRY_LENGTH;
 
 fn put_frame(frame: &Frame, out: &mut BlockBytes)
     requires { length out.old.items + FRAME ≤ 128 }
@@ -21,7 +21,7 @@ fn put_frame(frame: &Frame, out: &mut BlockBytes)
     push_zeros(out, FRAME - bytes.len());
 }
 
-#[tactic(auto, unfolding(flt_generation::specs::Form::entry_bytes))]
+#[tactic(auto, unfolding(flt_store_model::specs::Form::entry_bytes))]
 fn put_entry(entry: &EntryState, out: &mut BlockBytes)
     requires { length out.old.items ≡ 0 }
     ensures items { out.new.items ≡ entry_bytes entry.now }
@@ -33,7 +33,7 @@ fn put_entry(entry: &EntryState, out: &mut BlockBytes)
     put_frame(&entry.recent, out);
 }
 
-#[tactic(auto, unfolding(flt_generation::specs::Form::no_entry_bytes))]
+#[tactic(auto, unfolding(flt_store_model::specs::Form::no_entry_bytes))]
 fn put_no_entry(out: &mut BlockBytes)
     requires { length out.old.items ≡ 0 }
     ensures items { out.new.items ≡ no_entry_bytes }
@@ -82,7 +82,7 @@ fn frame_at(bytes: &[u8], at: usize) -> Frame
     frame
 }
 
-#[tactic(auto, unfolding(flt_generation::specs::Reading::entry_from))]
+#[tactic(auto, unfolding(flt_store_model::specs::Reading::entry_from))]
 fn entry_from(bytes: &[u8]) -> EntryState
     requires { length bytes.now ≡ entry_length }
     ensures { result ≡ entry_from bytes.now }

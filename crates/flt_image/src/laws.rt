@@ -2,7 +2,7 @@
 ghost use Rattle.std.specs.Prelude.{◌≢◌, IsTrue};
 ghost use Rattle.std.specs.List.{AllPairs};
 ghost use Rattle.flt_nvm.specs.Table.{serves};
-ghost use Rattle.flt_generation.specs.Layout.{numbers};
+ghost use Rattle.flt_store_model.specs.Layout.{numbers};
 ghost use Rattle.flt_image.specs.Table.{block_table};
 
 /// A driver that was made with the numbers of an image serves each block of the table.

@@ -1,10 +1,10 @@
 //! Which blocks a configuration has, and which part of a generation each of them holds.
 ghost use Rattle.std.specs.Prelude.{◌≡◌, ◌<◌, ◌≤◌, ◌+◌, ◌++◌, [], ◌∷◌, if◌then◌else◌, length};
-ghost use Rattle.flt_generation.specs.Layout.{first_part, end_part, part_of, parts, has_part, is_used, used_ids};
+ghost use Rattle.flt_store_model.specs.Layout.{first_part, end_part, part_of, parts, has_part, is_used, used_ids};
 
 use arrayvec::ArrayVec;
 use flt_config::ValidConfig;
-use flt_generation::{
+use flt_store_model::{
     END_PART, FIRST_ENTRY, FIRST_PART, FIRST_STATES, INDICES, LATER_STATES, Part, STATES_BLOCKS,
     STATES_PER_BLOCK,
 };

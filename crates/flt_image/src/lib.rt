@@ -1,7 +1,7 @@
 //! The bytes of the blocks of a generation: written from a durable state, and read again with every form and fit told apart.
 //!
-//! It stands on `flt_config`, on the definitions of `flt_generation`, and for the table of blocks on `flt_nvm`. The store
-//! above writes with the `put` calls and reads with the `get` calls, which answer as `specs/Reading` of `flt_generation`
+//! It stands on `flt_config`, on the definitions of `flt_store_model`, and for the table of blocks on `flt_nvm`. The store
+//! above writes with the `put` calls and reads with the `get` calls, which answer as `specs/Reading` of `flt_store_model`
 //! says. Read there `specs/Layout` and `specs/Form` first; here `specs/Taking` says what a block that is read leaves.
 #![tactic(auto)]
 
@@ -21,7 +21,7 @@ mod table;
 pub use block::{get_block, put_block};
 pub use blocks::{LONGEST, StateBlocks};
 pub use commit::{get_commit, next_commit, put_commit, put_commit_1};
-pub use flt_generation::{Commit, Mark};
+pub use flt_store_model::{Commit, Mark};
 pub use layout::{is_used, part_of, used_ids};
 pub use mark::{get_mark, mark_of, put_mark, put_mark_1};
 pub use numbers::fee_numbers;

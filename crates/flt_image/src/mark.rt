@@ -1,12 +1,12 @@
 //! The mark of a configuration.
 ghost use Rattle.std.specs.Prelude.{◌≡◌, length};
-ghost use Rattle.flt_generation.specs.Form.{mark_length, mark_of, mark_bytes, mark_bytes_1, versioned_mark, IsMark};
-ghost use Rattle.flt_generation.specs.Reading.{mark_from, mark_in, are_bytes_of_mark};
-ghost use Rattle.flt_generation.specs.Laws.{IsGiven};
+ghost use Rattle.flt_store_model.specs.Form.{mark_length, mark_of, mark_bytes, mark_bytes_1, versioned_mark, IsMark};
+ghost use Rattle.flt_store_model.specs.Reading.{mark_from, mark_in, are_bytes_of_mark};
+ghost use Rattle.flt_store_model.specs.Laws.{IsGiven};
 
 use crate::pushing::word_at;
 use flt_config::ValidConfig;
-use flt_generation::{MARK_LENGTH, Mark};
+use flt_store_model::{MARK_LENGTH, Mark};
 
 /// The mark of a configuration, whose numbers are those of its type.
 pub fn mark_of(config: &ValidConfig) -> Mark
@@ -40,7 +40,7 @@ fn versioned(version: u8, mark: &Mark) -> [u8; MARK_LENGTH]
 
 /// The bytes of a mark in version 2, which is written: 02, the configuration, its events, its entries, 00 00; numbers of two bytes are
 /// big-endian.
-#[tactic(auto, unfolding(flt_generation::specs::Form::mark_bytes))]
+#[tactic(auto, unfolding(flt_store_model::specs::Form::mark_bytes))]
 pub fn put_mark(mark: &Mark) -> [u8; MARK_LENGTH]
     ensures { result ≡ mark_bytes mark.now }
 {
@@ -48,7 +48,7 @@ pub fn put_mark(mark: &Mark) -> [u8; MARK_LENGTH]
 }
 
 /// The bytes of a mark in version 1: the same with 01 first.
-#[tactic(auto, unfolding(flt_generation::specs::Form::mark_bytes_1))]
+#[tactic(auto, unfolding(flt_store_model::specs::Form::mark_bytes_1))]
 pub fn put_mark_1(mark: &Mark) -> [u8; MARK_LENGTH]
     ensures { result ≡ mark_bytes_1 mark.now }
 {
@@ -63,7 +63,7 @@ fn are_bytes_of(bytes: &[u8], mark: &Mark) -> bool
 }
 
 /// The mark whose numbers stand in these bytes.
-#[tactic(auto, unfolding(flt_generation::specs::Reading::mark_from))]
+#[tactic(auto, unfolding(flt_store_model::specs::Reading::mark_from))]
 fn mark_from(bytes: &[u8]) -> Mark
     requires { length bytes.now ≡ mark_length }
     ensures value { result ≡ mark_from bytes.now }

@@ -1,8 +1,8 @@
 //! The numbers under which the driver keeps the blocks.
 ghost use Rattle.std.specs.Prelude.{◌≡◌, ◌<◌, ◌≤◌, IfOk};
-ghost use Rattle.flt_generation.specs.Layout.{numbers};
+ghost use Rattle.flt_store_model.specs.Layout.{numbers};
 
-use flt_generation::{
+use flt_store_model::{
     APPLICATIONS, END_PART, FIRST_APPLICATION, FIRST_COMMIT, FIRST_PART, MARK_NUMBER,
     NUMBERS_PER_BLOCK, SECOND_COMMIT,
 };

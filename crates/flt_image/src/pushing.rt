@@ -1,6 +1,6 @@
 //! Bytes that are put one behind the other, and read at their place.
 ghost use Rattle.std.specs.Prelude.{◌≡◌, ◌≤◌, ◌<◌, ◌+◌, ◌++◌, length, replicate};
-ghost use Rattle.flt_generation.specs.Reading.{word_at};
+ghost use Rattle.flt_store_model.specs.Reading.{word_at};
 
 use arrayvec::ArrayVec;
 

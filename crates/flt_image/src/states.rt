@@ -1,21 +1,21 @@
 //! The states of sixteen events.
 ghost use Rattle.std.specs.Prelude.{◌≡◌, ℕ, ◌+◌, ◌*◌, ◌<◌, ◌≤◌, ◌++◌, IsTrue, List, length, slice_index_or, slice_set, bytes_eq};
 ghost use Rattle.flt_config.specs.Durable.{start_state};
-ghost use Rattle.flt_generation.specs.declared.part.Part.TheVariants.{States};
-ghost use Rattle.flt_generation.specs.Layout.{states_per_block};
-ghost use Rattle.flt_generation.specs.Form.{states_length, state_bytes, states_bytes};
-ghost use Rattle.flt_generation.specs.Reading.{state_from, with_states, taken};
+ghost use Rattle.flt_store_model.specs.declared.part.Part.TheVariants.{States};
+ghost use Rattle.flt_store_model.specs.Layout.{states_per_block};
+ghost use Rattle.flt_store_model.specs.Form.{states_length, state_bytes, states_bytes};
+ghost use Rattle.flt_store_model.specs.Reading.{state_from, with_states, taken};
 ghost use Rattle.flt_image.specs.Taking.{TakesIn, HaveShortCounts, block_states};
 
 use crate::pushing::{BlockBytes, push_all, word_at};
 use arrayvec::ArrayVec;
 use flt_config::{EVENTS, EventState, Persist, UNTESTED, ValidConfig, are_states_of};
-use flt_generation::STATES_PER_BLOCK;
+use flt_store_model::STATES_PER_BLOCK;
 
 /// What is set beside the clean count of an event that is lit.
 const LIT: u16 = 0x8000;
 
-#[tactic(auto, unfolding(flt_generation::specs::Form::state_bytes))]
+#[tactic(auto, unfolding(flt_store_model::specs::Form::state_bytes))]
 fn put_state(state: EventState, out: &mut BlockBytes)
     requires clean { state.clean < 0x8000 }
     requires room { length out.old.items + 4 ≤ 128 }
@@ -45,7 +45,7 @@ pub(crate) fn put_states(states: &[EventState], first: u16, out: &mut BlockBytes
     }
 }
 
-#[tactic(auto, unfolding(flt_generation::specs::Reading::state_from))]
+#[tactic(auto, unfolding(flt_store_model::specs::Reading::state_from))]
 fn state_from(bytes: &[u8], place: usize) -> EventState
     requires size { length bytes.now ≡ states_length }
     requires place { place < states_per_block }

@@ -1,14 +1,14 @@
 //! The summary of a generation: its overflow flag, its number of entries and its noted events.
 ghost use Rattle.std.specs.Prelude.{◌≡◌, ◌↔◌, ◌+◌, ◌<◌, ◌≤◌, IsTrue, length, replicate, min};
-ghost use Rattle.flt_generation.specs.declared.part.Part.TheVariants.{Summary};
-ghost use Rattle.flt_generation.specs.Form.{summary_length, note_word, note_bytes, summary_bytes};
-ghost use Rattle.flt_generation.specs.Reading.{note_at, untaken_entry, with_summary, taken};
+ghost use Rattle.flt_store_model.specs.declared.part.Part.TheVariants.{Summary};
+ghost use Rattle.flt_store_model.specs.Form.{summary_length, note_word, note_bytes, summary_bytes};
+ghost use Rattle.flt_store_model.specs.Reading.{note_at, untaken_entry, with_summary, taken};
 ghost use Rattle.flt_image.specs.Taking.{no_state, summed_up, IsSummaryOf, TakesIn};
 
 use crate::pushing::word_at;
 use arrayvec::ArrayVec;
 use flt_config::{ENTRIES, EntryState, Persist, ValidConfig, is_noted};
-use flt_generation::SUMMARY_LENGTH;
+use flt_store_model::SUMMARY_LENGTH;
 
 /// What stands for no event.
 const NO_EVENT: u16 = 0xFFFF;
@@ -29,7 +29,7 @@ fn note_word(note: Option<u16>) -> u16
 }
 
 /// The bytes of the summary of a state.
-#[tactic(auto, unfolding(flt_generation::specs::Form::summary_bytes))]
+#[tactic(auto, unfolding(flt_store_model::specs::Form::summary_bytes))]
 pub(crate) fn summary_bytes(state: &Persist) -> [u8; SUMMARY_LENGTH]
     ensures { result ≡ summary_bytes state.now }
 {
@@ -76,7 +76,7 @@ fn untaken_entries(count: u8) -> ArrayVec<EntryState, ENTRIES>
 }
 
 /// A state that holds the summary in these bytes, and no events.
-#[tactic(auto, unfolding(flt_generation::specs::Reading::with_summary))]
+#[tactic(auto, unfolding(flt_store_model::specs::Reading::with_summary))]
 fn summary_from(bytes: &[u8]) -> Persist
     requires { length bytes.now ≡ summary_length }
     ensures { result ≡ with_summary bytes.now no_state }

@@ -3,12 +3,12 @@ ghost use Rattle.std.specs.Prelude.{◌≡◌, ◌+◌, ◌^◌, ◌<◌, ◌++�
 ghost use Rattle.flt_image.specs.Table.{rows, block_table};
 
 use flt_config::ENTRIES;
-use flt_generation::{
+use flt_nvm::{BlockCfg, Kind};
+use flt_store_model::{
     APPLICATION_LENGTH, APPLICATIONS, COMMIT_ID, COMMIT_LENGTH, ENTRY_LENGTH, FIRST_APPLICATION,
     FIRST_ENTRY, FIRST_PART, FIRST_STATES, LATER_STATES, LATER_STATES_BLOCKS, MARK_ID, MARK_LENGTH,
     STATES_BLOCKS, STATES_LENGTH, SUMMARY_LENGTH,
 };
-use flt_nvm::{BlockCfg, Kind};
 use std::alloc::{AllocError, Global};
 
 /// A part stands at one of two indices.

@@ -6,22 +6,22 @@ use Rattle.flt_flash.specs.declared.arm.Arm.{Arm}
 use Rattle.flt_flash.specs.declared.blocks.Blocks.{Ghosts}
 use Rattle.flt_config.specs.declared.config.Config.{Config}
 use Rattle.flt_dcm.specs.ReplyKind.{ReplyKind}
-use Rattle.flt_script.specs.Step.{is_lane_step}
-use Rattle.flt_script.specs.declared.step.Step.{Step}
+use Rattle.flt_step.specs.Step.{is_lane_step}
+use Rattle.flt_step.specs.declared.step.Step.{Step}
 use Rattle.flt_shared.specs.Call.{Seat}
 use Rattle.flt_store.specs.declared.store.Store.{Store}
 use Rattle.flt_store.specs.Store.{driver_of}
-use Rattle.flt_life.specs.Actions.{action_of, response_size}
-use Rattle.flt_life.specs.Answers.{Told, response_length, told_size, told_with}
-use Rattle.flt_life.specs.declared.answer.StepAnswer.{StepAnswer}
-use Rattle.flt_life.specs.declared.replies.LaneReplies.{LaneReplies}
-use Rattle.flt_life.specs.Going.{WereGiven}
-use Rattle.flt_life.specs.Ordered.{Deed, with_deed}
-use Rattle.flt_life.specs.Room.{told_in}
-use Rattle.flt_life.proofs.Giving.{none_given}
-use Rattle.flt_life.proofs.ByAction.{no_arms}
-use Rattle.flt_life.proofs.Riding.{goes_nowhere}
-use Rattle.flt_life.proofs.Sizes.{sizes-cons}
+use Rattle.flt_life_model.specs.Actions.{action_of, response_size}
+use Rattle.flt_life_model.specs.Answers.{Told, response_length, told_size, told_with}
+use Rattle.flt_life_model.specs.declared.answer.StepAnswer.{StepAnswer}
+use Rattle.flt_life_model.specs.declared.replies.LaneReplies.{LaneReplies}
+use Rattle.flt_life_model.specs.Going.{WereGiven}
+use Rattle.flt_life_model.specs.Ordered.{Deed, with_deed}
+use Rattle.flt_life_model.specs.Room.{told_in}
+use Rattle.flt_life_model.proofs.Giving.{none_given}
+use Rattle.flt_life_model.proofs.ByAction.{no_arms}
+use Rattle.flt_life_model.proofs.Riding.{goes_nowhere}
+use Rattle.flt_life_model.proofs.Sizes.{sizes-cons}
 use Rattle.flt_lane.specs.Living.{Carries}
 use Rattle.flt_lane.specs.Runs.{Makes, Queues, QueueSeat}
 use Rattle.flt_lane.specs.Stepped.{IsLockCall, KeepsAnswer, MakesStep, TakesStep}

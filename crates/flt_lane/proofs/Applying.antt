@@ -5,20 +5,20 @@ use Rattle.std.proofs.lemmas.Bool.{and_parts, eqb-true, le-leb, lt-leb, false≢
 use Rattle.std.proofs.lemmas.List.{append-nil, append_assoc, reverse-append, map-append}
 use Rattle.std.proofs.lemmas.List.Elements.{All-nil, All-cons, All-head, All-tail}
 use Rattle.flt_flash.specs.Content.{Content, bytes as holding}
-use Rattle.flt_generation.specs.Layout.{applications, application_number}
+use Rattle.flt_store_model.specs.Layout.{applications, application_number}
 use Rattle.flt_queue.specs.declared.job.Job.{Job}
 use Rattle.flt_queue.specs.declared.job.QueueOp.{QueueOp}
 use Rattle.flt_queue.specs.declared.job.QueueOp.TheVariants as ops
 use Rattle.flt_queue.specs.Queue.{History, is_of}
 use Rattle.flt_turn.specs.declared.vault.Entry.{Entry}
 use Rattle.flt_turn.specs.Journal.{ops_of}
-use Rattle.flt_life.specs.Actions.{IsQueueCall, action_of}
-use Rattle.flt_life.specs.Answers.{Told}
-use Rattle.flt_life.specs.Applications.{AreGot, Choose, GetsBy, HoldApplications, IsBytesOf, MayHold, done_count, is_done, job_behind, jobs_told, last_taken, up_to_done}
-use Rattle.flt_life.specs.Ordered.{Deed}
-use Rattle.flt_life.specs.declared.action.Action.{Action}
-use Rattle.flt_life.specs.declared.answer.StepAnswer.TheVariants as answers
-use Rattle.flt_life.proofs.Reading.{gets_also}
+use Rattle.flt_life_model.specs.Actions.{IsQueueCall, action_of}
+use Rattle.flt_life_model.specs.Answers.{Told}
+use Rattle.flt_life_model.specs.Applications.{AreGot, Choose, GetsBy, HoldApplications, IsBytesOf, MayHold, done_count, is_done, job_behind, jobs_told, last_taken, up_to_done}
+use Rattle.flt_life_model.specs.Ordered.{Deed}
+use Rattle.flt_life_model.specs.declared.action.Action.{Action}
+use Rattle.flt_life_model.specs.declared.answer.StepAnswer.TheVariants as answers
+use Rattle.flt_life_model.proofs.Reading.{gets_also}
 use Rattle.flt_lane.specs.Living.{AreHeld, answers_of, drain_call, drains_in}
 
 -- ---- how many calls of drains there are

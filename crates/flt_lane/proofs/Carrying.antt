@@ -10,28 +10,28 @@ use Rattle.flt_flash.specs.Calls.{ArmsDriver}
 use Rattle.flt_flash.specs.declared.arm.Arm.{Arm}
 use Rattle.flt_flash.specs.declared.blocks.Blocks.{Ghosts}
 use Rattle.flt_config.specs.declared.config.Config.{Config}
-use Rattle.flt_generation.specs.Holding.{Generation, SameApplications}
-use Rattle.flt_generation.specs.Layout.{application_number}
+use Rattle.flt_store_model.specs.Holding.{Generation, SameApplications}
+use Rattle.flt_store_model.specs.Layout.{application_number}
 use Rattle.flt_queue.specs.Queue.{History}
 use Rattle.flt_store.specs.declared.store.Store.{Store}
 use Rattle.flt_store.specs.Store.{Gets, IsRunning, driver_of}
 use Rattle.flt_turn.specs.declared.vault.Entry.{Entry}
 use Rattle.flt_turn.specs.Journal.{ops_of}
 use Rattle.flt_turn.specs.Seats.{Seated}
-use Rattle.flt_script.specs.declared.step.Step.TheVariants as steps
-use Rattle.flt_life.specs.Actions.{action_of}
-use Rattle.flt_life.specs.Applications.{GetsBy, HoldApplications, MayHold, jobs_told, up_to_done}
-use Rattle.flt_life.specs.Ordered.{Deed}
-use Rattle.flt_life.specs.declared.answer.StepAnswer.TheVariants as answers
+use Rattle.flt_step.specs.declared.step.Step.TheVariants as steps
+use Rattle.flt_life_model.specs.Actions.{action_of}
+use Rattle.flt_life_model.specs.Applications.{GetsBy, HoldApplications, MayHold, jobs_told, up_to_done}
+use Rattle.flt_life_model.specs.Ordered.{Deed}
+use Rattle.flt_life_model.specs.declared.answer.StepAnswer.TheVariants as answers
 use Rattle.flt_shared.specs.Call.{Seat}
-use Rattle.flt_life.specs.SoFar.{IsCaused}
-use Rattle.flt_life.proofs.Causing.{caused_arm}
+use Rattle.flt_life_model.specs.SoFar.{IsCaused}
+use Rattle.flt_life_model.proofs.Causing.{caused_arm}
 use Rattle.flt_fork.specs.Seats.{AreJoined}
 use Rattle.flt_lane.specs.Draining.{DrainsOn}
 use Rattle.flt_fork.specs.Known.{IsKnownTo}
 use Rattle.flt_lane.specs.Living.{AreHeld, Carries, HoldsBy, HoldsOn, IsLivingOn, answers_of, drains_by, drains_of, saves_by}
 use Rattle.flt_lane.specs.Runs.{QueueSeat}
-use Rattle.flt_life.proofs.Keeping.{IsNoSave, kept_other}
+use Rattle.flt_life_model.proofs.Keeping.{IsNoSave, kept_other}
 
 -- ---- seats that know as much
 

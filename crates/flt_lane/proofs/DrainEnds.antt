@@ -4,11 +4,11 @@ use Rattle.std.specs.Prelude.{nat_lt}
 use Rattle.std.proofs.lemmas.Bool.{lt-ltb, le-ltb}
 use Rattle.flt_flash.specs.declared.blocks.Blocks.{Ghosts}
 use Rattle.flt_config.specs.declared.config.Config.{Config}
-use Rattle.flt_script.specs.declared.step.Step.TheVariants as steps
+use Rattle.flt_step.specs.declared.step.Step.TheVariants as steps
 use Rattle.flt_shared.specs.Call.{Seat}
 use Rattle.flt_store.specs.declared.store.Store.{Store}
-use Rattle.flt_life.specs.Ordered.{Deed}
-use Rattle.flt_life.specs.declared.answer.StepAnswer.TheVariants as answers
+use Rattle.flt_life_model.specs.Ordered.{Deed}
+use Rattle.flt_life_model.specs.declared.answer.StepAnswer.TheVariants as answers
 use Rattle.flt_lane.specs.Draining.{DrainsOn, FindsNone, HasDrained}
 use Rattle.flt_lane.specs.Living.{Carries, drains_by, last_take}
 use Rattle.flt_lane.specs.Runs.{QueueSeat}

@@ -4,16 +4,16 @@ use Rattle.std.specs.List.{list_any}
 use Rattle.std.specs.Prelude.{◌||◌}
 use Rattle.std.proofs.lemmas.Bool.{true≢false}
 use Rattle.std.proofs.lemmas.List.{append-nil, append_assoc, reverse-append, length-append, length-drop, take-append-le, drop-append-le, take_all}
-use Rattle.flt_script.specs.declared.step.Step.{Step}
-use Rattle.flt_script.specs.Part.{PartOf}
-use Rattle.flt_script.specs.Step.{has_store_step, is_store_step}
-use Rattle.flt_life.specs.Answers.{Told}
+use Rattle.flt_step.specs.declared.step.Step.{Step}
+use Rattle.flt_step.specs.Part.{PartOf}
+use Rattle.flt_step.specs.Step.{has_store_step, is_store_step}
+use Rattle.flt_life_model.specs.Answers.{Told}
 use Rattle.flt_fork.specs.Making.{AreMadeBy, LanesMake}
-use Rattle.flt_life.specs.Making.{PartMakes, PartsMake}
+use Rattle.flt_life_model.specs.Making.{PartMakes, PartsMake}
 use Rattle.flt_fork.specs.Mixing.{Block, Call}
-use Rattle.flt_life.specs.Ordered.{Deed, block_deeds, deed_if, deeds_in, lane_deeds, with_deed}
-use Rattle.flt_life.specs.Parts.{own_steps, width, widths}
-use Rattle.flt_life.proofs.DeedLists.{deed_if-append}
+use Rattle.flt_life_model.specs.Ordered.{Deed, block_deeds, deed_if, deeds_in, lane_deeds, with_deed}
+use Rattle.flt_life_model.specs.Parts.{own_steps, width, widths}
+use Rattle.flt_life_model.proofs.DeedLists.{deed_if-append}
 
 -- ---- one step more
 

@@ -4,8 +4,8 @@ use Rattle.flt_flash.specs.Calls.{Follows}
 use Rattle.flt_flash.specs.declared.blocks.Blocks.{Ghosts}
 use Rattle.flt_store.specs.declared.store.Store.{Store}
 use Rattle.flt_store.specs.Store.{driver_of}
-use Rattle.flt_life.proofs.Giving.{none_given, none_since, given_further}
-use Rattle.flt_life.proofs.Riding.{goes_by_calls, goes_nowhere, goes_further}
+use Rattle.flt_life_model.proofs.Giving.{none_given, none_since, given_further}
+use Rattle.flt_life_model.proofs.Riding.{goes_by_calls, goes_nowhere, goes_further}
 use Rattle.flt_lane.specs.Stored.{LeavesStore}
 
 module _ {B : Type 0} {b : Ghosts B} where

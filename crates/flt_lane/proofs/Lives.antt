@@ -7,24 +7,24 @@ use Rattle.std.proofs.lemmas.List.Sums.{sum_by-append, sum_by-cons, sum_by_push}
 use Rattle.std.proofs.lemmas.List.{map-append, length-append, append_assoc, append-nil, reverse-append}
 use Rattle.flt_flash.specs.declared.blocks.Blocks.{Ghosts}
 use Rattle.flt_config.specs.declared.config.Config.{Config}
-use Rattle.flt_script.specs.declared.step.Step.{Step}
-use Rattle.flt_script.specs.Part.{PartOf}
+use Rattle.flt_step.specs.declared.step.Step.{Step}
+use Rattle.flt_step.specs.Part.{PartOf}
 use Rattle.flt_store.specs.declared.store.Store.{Store}
 use Rattle.flt_turn.specs.Seats as turn
 use Rattle.flt_turn.specs.Seats.{Seated}
 use Rattle.flt_queue.specs.Call as queued
 use Rattle.flt_queue.specs.Queue as queue
-use Rattle.flt_life.specs.declared.action.Action.{Action}
-use Rattle.flt_life.specs.declared.replies.LaneReplies.{LaneReplies}
-use Rattle.flt_life.specs.Actions.{action_of, all_arms, arms_of}
-use Rattle.flt_life.specs.Answers.{Told}
+use Rattle.flt_life_model.specs.declared.action.Action.{Action}
+use Rattle.flt_life_model.specs.declared.replies.LaneReplies.{LaneReplies}
+use Rattle.flt_life_model.specs.Actions.{action_of, all_arms, arms_of}
+use Rattle.flt_life_model.specs.Answers.{Told}
 use Rattle.flt_fork.specs.Mixing.{Call}
-use Rattle.flt_life.specs.Ordered.{deeds_in}
-use Rattle.flt_life.specs.Parts.{arms_in, calls_in, own_actions, own_steps, queued_in, width, widths}
-use Rattle.flt_life.specs.Played.{StepMakes, StepQueues}
-use Rattle.flt_life.specs.Room.{HasRoomForSteps, told_in}
-use Rattle.flt_life.proofs.Makings.{widths_more, widths-append, parts_none, parts_more}
-use Rattle.flt_life.proofs.Sizes.{sizes-cons}
+use Rattle.flt_life_model.specs.Ordered.{deeds_in}
+use Rattle.flt_life_model.specs.Parts.{arms_in, calls_in, own_actions, own_steps, queued_in, width, widths}
+use Rattle.flt_life_model.specs.Played.{StepMakes, StepQueues}
+use Rattle.flt_life_model.specs.Room.{HasRoomForSteps, told_in}
+use Rattle.flt_life_model.proofs.Makings.{widths_more, widths-append, parts_none, parts_more}
+use Rattle.flt_life_model.proofs.Sizes.{sizes-cons}
 use Rattle.flt_shared.specs.Call.{Seat, MayBeAsked, reply_after}
 use Rattle.flt_shared.specs.Lock.{IsSeatOf}
 use Rattle.flt_lane.specs.declared.locks.Locks.{Locks}

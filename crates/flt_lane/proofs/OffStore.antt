@@ -6,16 +6,16 @@ use Rattle.std.proofs.lemmas.List.Folds.{list_any_at}
 use Rattle.flt_config.specs.declared.config.Config.{Config}
 use Rattle.flt_flash.specs.declared.arm.Arm.{Arm}
 use Rattle.flt_flash.specs.declared.blocks.Blocks.{Ghosts}
-use Rattle.flt_life.specs.Actions.{action_of, arms_of}
-use Rattle.flt_life.specs.Answers.{Told}
-use Rattle.flt_life.specs.Ordered.{Deed, deed_if, with_deed}
-use Rattle.flt_life.specs.declared.action.Action.{Action}
-use Rattle.flt_life.specs.declared.action.Action.TheVariants as action
-use Rattle.flt_life.proofs.ByAction.{may_stand, stands, touches_by, touches_store}
+use Rattle.flt_life_model.specs.Actions.{action_of, arms_of}
+use Rattle.flt_life_model.specs.Answers.{Told}
+use Rattle.flt_life_model.specs.Ordered.{Deed, deed_if, with_deed}
+use Rattle.flt_life_model.specs.declared.action.Action.{Action}
+use Rattle.flt_life_model.specs.declared.action.Action.TheVariants as action
+use Rattle.flt_life_model.proofs.ByAction.{may_stand, stands, touches_by, touches_store}
 use Rattle.flt_queue.specs.Call as queued
 use Rattle.flt_queue.specs.Queue as queue
-use Rattle.flt_script.specs.Step.{has_store_step, is_lane_step, is_store_step}
-use Rattle.flt_script.specs.declared.step.Step.{Step}
+use Rattle.flt_step.specs.Step.{has_store_step, is_lane_step, is_store_step}
+use Rattle.flt_step.specs.declared.step.Step.{Step}
 use Rattle.flt_shared.specs.Call.{MayBeAsked, Seat, reply_after}
 use Rattle.flt_store.specs.declared.store.Store.{Store}
 use Rattle.flt_lane.specs.Living.{Carries}

@@ -1,12 +1,12 @@
 -- The lanes of a life, handed out to its blocks.
 use Rattle.std.proofs.Common.{◌≡◌, inl, inr, ℕ, suc, ◌<◌, ◌+◌, List, [], ◌∷◌, ◌++◌, length, map, take, drop, get_or, drop-cons, add-one, arith, refl, sym, ap, ◌∙◌}
 use Rattle.std.proofs.lemmas.List.{append-nil, length-map, map-append, map_more}
-use Rattle.flt_script.specs.declared.step.Step.{Step}
-use Rattle.flt_script.specs.declared.step.Part.{Part}
-use Rattle.flt_script.specs.Part.{PartOf, part_of, parts_of}
-use Rattle.flt_life.specs.declared.room.LaneRoom.{LaneRoom}
-use Rattle.flt_life.specs.Parts.{lanes_in}
-use Rattle.flt_life.specs.Room.{steps_of}
+use Rattle.flt_step.specs.declared.step.Step.{Step}
+use Rattle.flt_step.specs.declared.step.Part.{Part}
+use Rattle.flt_step.specs.Part.{PartOf, part_of, parts_of}
+use Rattle.flt_life_model.specs.declared.room.LaneRoom.{LaneRoom}
+use Rattle.flt_life_model.specs.Parts.{lanes_in}
+use Rattle.flt_life_model.specs.Room.{steps_of}
 use Rattle.flt_lane.specs.declared.room.PartRoom.{PartRoom}
 use Rattle.flt_lane.specs.Room.{part_in}
 

@@ -5,7 +5,7 @@ use Rattle.std.proofs.lemmas.List.Elements.{All-nil, All-cons}
 use Rattle.flt_config.specs.declared.config.Config.{Config}
 use Rattle.flt_config.specs.declared.persist.Persist.{Persist}
 use Rattle.flt_flash.specs.declared.blocks.Blocks.{Ghosts}
-use Rattle.flt_generation.specs.Holding.{Generation}
+use Rattle.flt_store_model.specs.Holding.{Generation}
 use Rattle.flt_model.specs.Durable.{saved_after}
 use Rattle.flt_model.specs.declared.call.Op.{Op}
 use Rattle.flt_model.specs.declared.call.Op.TheVariants as ops
@@ -16,17 +16,17 @@ use Rattle.flt_turn.specs.Call.{past}
 use Rattle.flt_store.specs.declared.fault.SaveFault.{SaveFault}
 use Rattle.flt_store.specs.declared.store.Store.{Store}
 use Rattle.flt_store.specs.Store.{IsRunning, MayHaveSaved, Saves, numbered}
-use Rattle.flt_life.specs.Actions.{IsStepCall}
-use Rattle.flt_life.specs.Chain.{start_from}
-use Rattle.flt_life.specs.Journal.{Journal, entry, calls_of, snapshot_of}
-use Rattle.flt_life.specs.Ordered.{Deed}
-use Rattle.flt_life.specs.declared.answer.StepAnswer.TheVariants as answers
-use Rattle.flt_script.specs.declared.step.Step.TheVariants as steps
+use Rattle.flt_life_model.specs.Actions.{IsStepCall}
+use Rattle.flt_life_model.specs.Chain.{start_from}
+use Rattle.flt_life_model.specs.Journal.{Journal, entry, calls_of, snapshot_of}
+use Rattle.flt_life_model.specs.Ordered.{Deed}
+use Rattle.flt_life_model.specs.declared.answer.StepAnswer.TheVariants as answers
+use Rattle.flt_step.specs.declared.step.Step.TheVariants as steps
 use Rattle.flt_shared.specs.Call.{Seat, IsCall}
-use Rattle.flt_life.specs.SoFar.{IsKeptSince}
+use Rattle.flt_life_model.specs.SoFar.{IsKeptSince}
 use Rattle.flt_lane.specs.Living.{IsLivingOn, answers_of, save_call, saves_in, saves_of}
 use Rattle.flt_fork.proofs.Knowing.{Since, since, knows_all}
-use Rattle.flt_life.proofs.Keeping.{kept_failed, kept_further, kept_saved, pushed, snapshot_further}
+use Rattle.flt_life_model.proofs.Keeping.{kept_failed, kept_further, kept_saved, pushed, snapshot_further}
 
 -- ---- how many calls of saves there are
 

@@ -3,17 +3,17 @@ use Rattle.std.proofs.Common.{◌≡◌, ℕ, ◌≤◌, ◌+◌, List, ◌∷�
 use Rattle.std.specs.Prelude.{sum_by}
 use Rattle.std.proofs.lemmas.List.Sums.{sum_by-cons}
 use Rattle.std.proofs.lemmas.List.Elements.{All-head, All-tail}
-use Rattle.flt_script.specs.declared.step.Step.{Step}
+use Rattle.flt_step.specs.declared.step.Step.{Step}
 use Rattle.flt_turn.specs.Seats.{split_off, split_seat}
 use Rattle.flt_fork.specs.Passed.{HavePassed}
 use Rattle.flt_fork.specs.Seats.{IsSplitOff}
 use Rattle.flt_fork.proofs.Blocks.{all_right}
 use Rattle.flt_fork.proofs.Passed.{joined_seats, joins_on, passed_alone, passed_behind, passed_each, passed_same, split_main, split_seats, splits_on, splits_with}
 use Rattle.flt_shared.specs.Call.{Seat}
-use Rattle.flt_life.specs.Parts.{calls_of, queued_of}
-use Rattle.flt_life.specs.declared.replies.LaneReplies.{LaneReplies}
-use Rattle.flt_life.specs.declared.room.LaneRoom.{LaneRoom}
-use Rattle.flt_life.specs.Room.{HasRoomForSteps, IsEmpty, IsLaneRoom, steps_of, told_in}
+use Rattle.flt_life_model.specs.Parts.{calls_of, queued_of}
+use Rattle.flt_life_model.specs.declared.replies.LaneReplies.{LaneReplies}
+use Rattle.flt_life_model.specs.declared.room.LaneRoom.{LaneRoom}
+use Rattle.flt_life_model.specs.Room.{HasRoomForSteps, IsEmpty, IsLaneRoom, steps_of, told_in}
 use Rattle.flt_lane.specs.declared.lane.LaneWork.{LaneWork}
 use Rattle.flt_lane.specs.declared.locks.Locks.{Locks}
 use Rattle.flt_lane.specs.declared.locks.Seats.{Seats}

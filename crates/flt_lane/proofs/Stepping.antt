@@ -19,20 +19,20 @@ use Rattle.flt_queue.specs.Queue as queue
 use Rattle.flt_queue.specs.declared.job.QueueOp.{QueueOp}
 use Rattle.flt_queue.specs.declared.job.QueueReply.{QueueReply}
 use Rattle.flt_queue.specs.declared.job.QueueReply.TheVariants as replies
-use Rattle.flt_script.specs.declared.step.Step.{Step}
-use Rattle.flt_script.specs.declared.step.Step.TheVariants as steps
+use Rattle.flt_step.specs.declared.step.Step.{Step}
+use Rattle.flt_step.specs.declared.step.Step.TheVariants as steps
 use Rattle.flt_store.specs.declared.fault.SaveFault.{SaveFault}
 use Rattle.flt_store.specs.declared.store.Store.{Store}
 use Rattle.flt_flash.specs.declared.blocks.Blocks.{Ghosts}
 use Rattle.flt_turn.specs.declared.answer.Answer.{Answer}
 use Rattle.flt_shared.specs.Call.{Seat, IsCall, MayBeAsked, reply_after}
-use Rattle.flt_life.specs.Actions.{action_of, call_count, queue_count, response_size}
-use Rattle.flt_life.specs.Answers.{Told, reply_size}
-use Rattle.flt_life.specs.Draining.{calls_for_all, take_at}
-use Rattle.flt_life.specs.Played.{ActionMakes, ActionQueues, StepMakes, StepQueues}
-use Rattle.flt_life.specs.declared.action.Action.TheVariants as action
-use Rattle.flt_life.proofs.Responses.{answer_size, size_most}
-use Rattle.flt_life.specs.declared.answer.StepAnswer.TheVariants as answers
+use Rattle.flt_life_model.specs.Actions.{action_of, call_count, queue_count, response_size}
+use Rattle.flt_life_model.specs.Answers.{Told, reply_size}
+use Rattle.flt_life_model.specs.Draining.{calls_for_all, take_at}
+use Rattle.flt_life_model.specs.Played.{ActionMakes, ActionQueues, StepMakes, StepQueues}
+use Rattle.flt_life_model.specs.declared.action.Action.TheVariants as action
+use Rattle.flt_life_model.proofs.Responses.{answer_size, size_most}
+use Rattle.flt_life_model.specs.declared.answer.StepAnswer.TheVariants as answers
 use Rattle.flt_fork.specs.Chain.{Chain}
 use Rattle.flt_lane.specs.Draining.{FindsNone, HasDrained}
 use Rattle.flt_lane.specs.Runs.{Makes, Queues, QueueSeat}

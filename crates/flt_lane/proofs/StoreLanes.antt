@@ -8,14 +8,14 @@ use Rattle.flt_flash.specs.declared.blocks.Blocks.{Ghosts}
 use Rattle.flt_config.specs.declared.config.Config.{Config}
 use Rattle.flt_queue.specs.Call as queued
 use Rattle.flt_queue.specs.Queue as queue
-use Rattle.flt_script.specs.Step.{has_store_step}
-use Rattle.flt_script.specs.declared.step.Step.{Step}
+use Rattle.flt_step.specs.Step.{has_store_step}
+use Rattle.flt_step.specs.declared.step.Step.{Step}
 use Rattle.flt_shared.specs.Call.{Seat, MayBeAsked, reply_after}
 use Rattle.flt_store.specs.declared.store.Store.{Store}
 use Rattle.flt_turn.specs.Seats.{Seated}
-use Rattle.flt_life.specs.Answers.{Told}
-use Rattle.flt_life.specs.Ordered.{Deed, block_deeds, lane_deeds}
-use Rattle.flt_life.specs.Room.{told_in}
+use Rattle.flt_life_model.specs.Answers.{Told}
+use Rattle.flt_life_model.specs.Ordered.{Deed, block_deeds, lane_deeds}
+use Rattle.flt_life_model.specs.Room.{told_in}
 use Rattle.flt_lane.specs.declared.lane.LaneWork.{LaneWork}
 use Rattle.flt_lane.specs.declared.locks.Locks.{Locks}
 use Rattle.flt_fork.specs.Seats.{IsSplitSeat, IsSplitOff, AreJoined}
@@ -32,7 +32,7 @@ use Rattle.flt_fork.proofs.Chains.{chain_fact}
 use Rattle.flt_fork.proofs.Knowing.{known_same}
 use Rattle.flt_lane.proofs.LaneDeeds.{none_deeds, one_deeds}
 use Rattle.flt_fork.proofs.Passed.{split_each}
-use Rattle.flt_life.specs.Parts.{calls_of, queued_of}
+use Rattle.flt_life_model.specs.Parts.{calls_of, queued_of}
 use Rattle.flt_lane.specs.declared.locks.Seats.{Seats}
 use Rattle.flt_lane.specs.Seating.{AreSeated, HaveJoined}
 use Rattle.flt_lane.proofs.WorkRuns.{ran_lanes}

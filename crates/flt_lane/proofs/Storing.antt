@@ -5,18 +5,18 @@ use Rattle.std.proofs.lemmas.List.{append-nil, append_assoc, append_cancel_left,
 use Rattle.flt_flash.specs.declared.arm.Arm.{Arm}
 use Rattle.flt_flash.specs.declared.blocks.Blocks.{Ghosts}
 use Rattle.flt_config.specs.declared.config.Config.{Config}
-use Rattle.flt_script.specs.Step.{is_lane_step}
-use Rattle.flt_script.specs.declared.step.Step.{Step}
+use Rattle.flt_step.specs.Step.{is_lane_step}
+use Rattle.flt_step.specs.declared.step.Step.{Step}
 use Rattle.flt_shared.specs.Call.{MayBeAsked, reply_after}
 use Rattle.flt_store.specs.declared.store.Store.{Store}
 use Rattle.flt_store.specs.Store.{driver_of}
-use Rattle.flt_life.specs.Actions.{action_of, arm_count, arms_of}
-use Rattle.flt_life.specs.Answers.{Told}
-use Rattle.flt_life.specs.Ordered.{Deed, lane_deeds, with_deed}
-use Rattle.flt_life.specs.Played.{StepMakes}
-use Rattle.flt_life.specs.Room.{told_in}
-use Rattle.flt_life.specs.Going.{GoesOn, WereGiven}
-use Rattle.flt_life.proofs.ByAction.{no_arm, no_arms}
+use Rattle.flt_life_model.specs.Actions.{action_of, arm_count, arms_of}
+use Rattle.flt_life_model.specs.Answers.{Told}
+use Rattle.flt_life_model.specs.Ordered.{Deed, lane_deeds, with_deed}
+use Rattle.flt_life_model.specs.Played.{StepMakes}
+use Rattle.flt_life_model.specs.Room.{told_in}
+use Rattle.flt_life_model.specs.Going.{GoesOn, WereGiven}
+use Rattle.flt_life_model.proofs.ByAction.{no_arm, no_arms}
 use Rattle.flt_lane.specs.declared.lane.LaneWork.{LaneWork}
 use Rattle.flt_lane.specs.declared.locks.Locks.{Locks}
 use Rattle.flt_lane.specs.Living.{Carries}

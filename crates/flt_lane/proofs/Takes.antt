@@ -13,7 +13,7 @@ use Rattle.flt_store.specs.declared.store.Store.{Store}
 use Rattle.flt_store.specs.Store.{driver_of}
 use Rattle.flt_turn.specs.declared.answer.Answer.{Answer}
 use Rattle.flt_turn.specs.Sums.{one_if}
-use Rattle.flt_life.specs.Draining.{take_at}
+use Rattle.flt_life_model.specs.Draining.{take_at}
 use Rattle.flt_lane.specs.Draining.{FindsNone, MakesJobs, TakesJob, WritesJob}
 use Rattle.flt_lane.specs.Living.{HoldsBy}
 use Rattle.flt_lane.specs.Runs.{QueueSeat}

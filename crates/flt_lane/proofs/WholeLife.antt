@@ -1,14 +1,14 @@
 -- A whole life on a lock, from one that took no call to the journal that it leaves.
 use Rattle.std.proofs.Common.{◌≡◌, ◌+◌, List, ◌++◌, length, arith, sym, ap, subst, ◌∙◌}
-use Rattle.flt_script.specs.declared.step.Step.{Step}
+use Rattle.flt_step.specs.declared.step.Step.{Step}
 use Rattle.flt_turn.specs.declared.vault.Entry.{Entry}
 use Rattle.flt_turn.specs.Seats.{Seated, main_seat}
-use Rattle.flt_life.specs.Answers.{Told}
-use Rattle.flt_life.specs.Played.{IsMade}
+use Rattle.flt_life_model.specs.Answers.{Told}
+use Rattle.flt_life_model.specs.Played.{IsMade}
 use Rattle.flt_fork.specs.Mixing.{Call, HasInOrder, calls_in_lane}
 use Rattle.flt_fork.specs.Lived.{CouldClose}
-use Rattle.flt_script.specs.Part.{PartOf}
-use Rattle.flt_life.specs.Making.{PartsMake}
+use Rattle.flt_step.specs.Part.{PartOf}
+use Rattle.flt_life_model.specs.Making.{PartsMake}
 use Rattle.flt_fork.proofs.Closing.{empty_before}
 use Rattle.flt_fork.proofs.Rising.{rise_lower}
 use Rattle.flt_lane.specs.Block.{HasRunParts}

@@ -2,12 +2,12 @@
 use Rattle.std.proofs.Common.{◌≡◌, ℕ, ◌<◌, List, [], ◌++◌, length, map, get_or, sym, ap, subst, ◌∙◌}
 use Rattle.flt_queue.specs.Call as queued
 use Rattle.flt_queue.specs.Queue as queue
-use Rattle.flt_script.specs.declared.step.Step.{Step}
+use Rattle.flt_step.specs.declared.step.Step.{Step}
 use Rattle.flt_shared.specs.Call.{MayBeAsked, reply_after}
-use Rattle.flt_life.specs.Answers.{Told}
-use Rattle.flt_life.specs.Parts.{calls_of, queued_of}
-use Rattle.flt_life.specs.Played.{StepMakes, StepQueues}
-use Rattle.flt_life.specs.Room.{told_in}
+use Rattle.flt_life_model.specs.Answers.{Told}
+use Rattle.flt_life_model.specs.Parts.{calls_of, queued_of}
+use Rattle.flt_life_model.specs.Played.{StepMakes, StepQueues}
+use Rattle.flt_life_model.specs.Room.{told_in}
 use Rattle.flt_fork.specs.Lived.{IsMain}
 use Rattle.flt_fork.specs.Runs.{HasRunBlock}
 use Rattle.flt_fork.proofs.BlockRuns.{works_ran}

@@ -1,15 +1,15 @@
 -- What a part of a life leaves of the main seats.
 use Rattle.std.specs.Prelude.{◌≡◌, ◌+◌, List, [], ◌∷◌, ◌++◌}
-use Rattle.flt_script.specs.declared.step.Step.{Step}
-use Rattle.flt_script.specs.Part.{PartOf}
+use Rattle.flt_step.specs.declared.step.Step.{Step}
+use Rattle.flt_step.specs.Part.{PartOf}
 use Rattle.flt_turn.specs.Seats.{Seated}
 use Rattle.flt_queue.specs.Call as queued
 use Rattle.flt_shared.specs.Call.{Seat, reply_after}
-use Rattle.flt_life.specs.Answers.{Told}
-use Rattle.flt_life.specs.Making.{PartMakes, PartsMake}
+use Rattle.flt_life_model.specs.Answers.{Told}
+use Rattle.flt_life_model.specs.Making.{PartMakes, PartsMake}
 use Rattle.flt_fork.specs.Mixing.{Call, Block}
-use Rattle.flt_life.specs.Parts.{width, widths}
-use Rattle.flt_life.specs.Played.{StepMakes, StepQueues}
+use Rattle.flt_life_model.specs.Parts.{width, widths}
+use Rattle.flt_life_model.specs.Played.{StepMakes, StepQueues}
 use Rattle.flt_fork.specs.Lived.{HasLived}
 use Rattle.flt_fork.specs.Runs.{HasRunBlock}
 use Rattle.flt_lane.specs.Runs.{QueueSeat}

@@ -2,11 +2,11 @@
 use Rattle.std.specs.Prelude.{List, [], ◌∷◌, ◌++◌, reverse}
 use Rattle.flt_flash.specs.declared.blocks.Blocks.{Ghosts}
 use Rattle.flt_config.specs.declared.config.Config.{Config}
-use Rattle.flt_script.specs.declared.step.Step.{Step}
-use Rattle.flt_script.specs.Part.{PartOf}
+use Rattle.flt_step.specs.declared.step.Step.{Step}
+use Rattle.flt_step.specs.Part.{PartOf}
 use Rattle.flt_store.specs.declared.store.Store.{Store}
-use Rattle.flt_life.specs.Answers.{Told}
-use Rattle.flt_life.specs.Ordered.{Deed, block_deeds, deeds_in}
+use Rattle.flt_life_model.specs.Answers.{Told}
+use Rattle.flt_life_model.specs.Ordered.{Deed, block_deeds, deeds_in}
 use Rattle.flt_shared.specs.Call.{Seat}
 use Rattle.flt_lane.specs.Block.{Gains, RunsLanes}
 use Rattle.flt_lane.specs.Living.{Carries}

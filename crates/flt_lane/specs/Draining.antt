@@ -5,8 +5,8 @@ use Rattle.flt_flash.specs.Content.{Content, bytes as holding}
 use Rattle.flt_flash.specs.State.{HasRisenBy}
 use Rattle.flt_flash.specs.declared.blocks.Blocks.{Ghosts}
 use Rattle.flt_config.specs.declared.config.Config.{Config}
-use Rattle.flt_generation.specs.Holding.{Generation}
-use Rattle.flt_generation.specs.Layout.{application_number}
+use Rattle.flt_store_model.specs.Holding.{Generation}
+use Rattle.flt_store_model.specs.Layout.{application_number}
 use Rattle.flt_nvm.specs.Leaves.{IsEither}
 use Rattle.flt_queue.specs.Call as queued
 use Rattle.flt_queue.specs.declared.job.Job.{Job}
@@ -15,11 +15,11 @@ use Rattle.flt_queue.specs.declared.job.QueueReply.TheVariants.{NoJob}
 use Rattle.flt_store.specs.declared.store.Store.{Store}
 use Rattle.flt_store.specs.Store.{IsRunning, driver_of}
 use Rattle.flt_turn.specs.Sums.{one_if}
-use Rattle.flt_life.specs.Answers.{Told}
-use Rattle.flt_life.specs.Draining.{Drained, QueueCall, calls_for, calls_for_all, take_at}
-use Rattle.flt_life.specs.Ordered.{Deed}
-use Rattle.flt_life.specs.declared.answer.StepAnswer.TheVariants as answers
-use Rattle.flt_life.specs.SoFar.{IsCaused}
+use Rattle.flt_life_model.specs.Answers.{Told}
+use Rattle.flt_life_model.specs.Draining.{Drained, QueueCall, calls_for, calls_for_all, take_at}
+use Rattle.flt_life_model.specs.Ordered.{Deed}
+use Rattle.flt_life_model.specs.declared.answer.StepAnswer.TheVariants as answers
+use Rattle.flt_life_model.specs.SoFar.{IsCaused}
 use Rattle.flt_fork.specs.Chain.{Chain}
 use Rattle.flt_lane.specs.Living.{HoldsBy}
 use Rattle.flt_lane.specs.Runs.{QueueSeat}

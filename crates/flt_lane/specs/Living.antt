@@ -3,7 +3,7 @@ use Rattle.std.specs.Prelude.{◌≡◌, ℕ, ◌+◌, ◌*◌, ◌≤◌, nat_l
 use Rattle.flt_flash.specs.Content.{Content}
 use Rattle.flt_flash.specs.declared.blocks.Blocks.{Ghosts}
 use Rattle.flt_config.specs.declared.config.Config.{Config}
-use Rattle.flt_generation.specs.Holding.{Generation}
+use Rattle.flt_store_model.specs.Holding.{Generation}
 use Rattle.flt_model.specs.declared.call.Op.{Op}
 use Rattle.flt_model.specs.declared.call.Op.TheVariants as ops
 use Rattle.flt_queue.specs.declared.job.QueueOp.{QueueOp}
@@ -14,14 +14,14 @@ use Rattle.flt_turn.specs.Journal.{ops_of}
 use Rattle.flt_fork.specs.Known.{IsKnownTo}
 use Rattle.flt_store.specs.declared.store.Store.{Store}
 use Rattle.flt_store.specs.Store.{IsAlive, IsRunning, driver_of}
-use Rattle.flt_life.specs.Answers.{Told}
-use Rattle.flt_life.specs.Applications.{HoldApplications, AreGot, done_count, jobs_told, up_to_done}
-use Rattle.flt_life.specs.Chain.{start_from}
-use Rattle.flt_life.specs.Journal.{Journal}
-use Rattle.flt_life.specs.Ordered.{Deed}
-use Rattle.flt_life.specs.declared.answer.StepAnswer.TheVariants.{Saved, SaveFailed, Drained}
+use Rattle.flt_life_model.specs.Answers.{Told}
+use Rattle.flt_life_model.specs.Applications.{HoldApplications, AreGot, done_count, jobs_told, up_to_done}
+use Rattle.flt_life_model.specs.Chain.{start_from}
+use Rattle.flt_life_model.specs.Journal.{Journal}
+use Rattle.flt_life_model.specs.Ordered.{Deed}
+use Rattle.flt_life_model.specs.declared.answer.StepAnswer.TheVariants.{Saved, SaveFailed, Drained}
 use Rattle.flt_shared.specs.Call.{Seat}
-use Rattle.flt_life.specs.SoFar.{IsKeptSince, IsCaused}
+use Rattle.flt_life_model.specs.SoFar.{IsKeptSince, IsCaused}
 use Rattle.flt_lane.specs.Runs.{QueueSeat}
 
 -- The answers of deeds.

@@ -3,12 +3,12 @@ use Rattle.std.specs.Prelude.{◌≡◌, ℕ, ◌≤◌, List, [], All, length, 
 use Rattle.std.proofs.Common.{inl, inr}
 use Rattle.std.specs.Vec.{vec_capacity}
 use Rattle.flt_config.specs.declared.config.Config.{Config}
-use Rattle.flt_script.specs.declared.step.Step.{Step}
-use Rattle.flt_script.specs.Part.{PartOf}
-use Rattle.flt_script.specs.Step.{store_lanes}
-use Rattle.flt_life.specs.Actions.{IsPossible, action_of}
-use Rattle.flt_life.specs.Parts.{IsPossibleInLane, calls_of, queued_of}
-use Rattle.flt_life.specs.Room.{IsLaneRoom, steps_of}
+use Rattle.flt_step.specs.declared.step.Step.{Step}
+use Rattle.flt_step.specs.Part.{PartOf}
+use Rattle.flt_step.specs.Step.{store_lanes}
+use Rattle.flt_life_model.specs.Actions.{IsPossible, action_of}
+use Rattle.flt_life_model.specs.Parts.{IsPossibleInLane, calls_of, queued_of}
+use Rattle.flt_life_model.specs.Room.{IsLaneRoom, steps_of}
 use Rattle.flt_lane.specs.declared.room.BlockRoom.{BlockRoom}
 use Rattle.flt_lane.specs.declared.room.PartRoom.{PartRoom}
 use Rattle.flt_lane.specs.declared.room.PartRoom.TheVariants.{One, Lanes}

@@ -2,10 +2,10 @@
 -- answered by them.
 use Rattle.std.specs.Prelude.{ℕ, List}
 use Rattle.flt_fork.specs.Runs.{MakesBy, RunsBy}
-use Rattle.flt_script.specs.declared.step.Step.{Step}
-use Rattle.flt_life.specs.Actions.{action_of, call_count, queue_count}
-use Rattle.flt_life.specs.Answers.{Told}
-use Rattle.flt_life.specs.Played.{StepMakes, StepQueues}
+use Rattle.flt_step.specs.declared.step.Step.{Step}
+use Rattle.flt_life_model.specs.Actions.{action_of, call_count, queue_count}
+use Rattle.flt_life_model.specs.Answers.{Told}
+use Rattle.flt_life_model.specs.Played.{StepMakes, StepQueues}
 use Rattle.flt_queue.specs.Call as queued
 use Rattle.flt_queue.specs.Queue as queue
 use Rattle.flt_shared.specs.Call.{Seat, MayBeAsked, reply_after}

@@ -3,12 +3,12 @@ use Rattle.std.specs.Prelude.{◌≡◌, ◌+◌, List, [], ◌++◌, All, lengt
 use Rattle.flt_turn.specs.Seats.{joined_seat}
 use Rattle.flt_fork.specs.Passed.{AreSplit, CanSplit, IsMainOf, Splits}
 use Rattle.flt_fork.specs.Seats.{AreJoined, IsSplitOff}
-use Rattle.flt_script.specs.declared.step.Step.{Step}
-use Rattle.flt_life.specs.Answers.{Told}
-use Rattle.flt_life.specs.declared.replies.LaneReplies.{LaneReplies}
-use Rattle.flt_life.specs.declared.room.LaneRoom.{LaneRoom}
-use Rattle.flt_life.specs.Parts.{calls_of, queued_of}
-use Rattle.flt_life.specs.Room.{IsLaneRoom, steps_of, told_in}
+use Rattle.flt_step.specs.declared.step.Step.{Step}
+use Rattle.flt_life_model.specs.Answers.{Told}
+use Rattle.flt_life_model.specs.declared.replies.LaneReplies.{LaneReplies}
+use Rattle.flt_life_model.specs.declared.room.LaneRoom.{LaneRoom}
+use Rattle.flt_life_model.specs.Parts.{calls_of, queued_of}
+use Rattle.flt_life_model.specs.Room.{IsLaneRoom, steps_of, told_in}
 use Rattle.flt_lane.specs.declared.lane.LaneWork.{LaneWork}
 use Rattle.flt_lane.specs.declared.locks.Locks.{Locks}
 use Rattle.flt_lane.specs.declared.locks.Seats.{Seats}

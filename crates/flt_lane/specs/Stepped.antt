@@ -3,17 +3,17 @@ use Rattle.std.specs.Prelude.{◌≡◌, ◌+◌, ◌≤◌, List, [], ◌∷◌
 use Rattle.std.specs.Vec.{vec_capacity}
 use Rattle.flt_flash.specs.declared.blocks.Blocks.{Ghosts}
 use Rattle.flt_config.specs.declared.config.Config.{Config}
-use Rattle.flt_script.specs.declared.step.Step.{Step}
+use Rattle.flt_step.specs.declared.step.Step.{Step}
 use Rattle.flt_store.specs.declared.store.Store.{Store}
 use Rattle.flt_store.specs.Store.{driver_of}
-use Rattle.flt_life.specs.declared.action.Action.{Action}
-use Rattle.flt_life.specs.declared.action.Action.TheVariants.{Call, Queue}
-use Rattle.flt_life.specs.declared.replies.LaneReplies.{LaneReplies}
-use Rattle.flt_life.specs.Actions.{action_of, arm_count, arms_of, response_size}
-use Rattle.flt_life.specs.Answers.{Told}
-use Rattle.flt_life.specs.Going.{GoesOn, WereGiven}
-use Rattle.flt_life.specs.Ordered.{Deed, with_deed}
-use Rattle.flt_life.specs.Room.{HasRoomForSteps, told_in}
+use Rattle.flt_life_model.specs.declared.action.Action.{Action}
+use Rattle.flt_life_model.specs.declared.action.Action.TheVariants.{Call, Queue}
+use Rattle.flt_life_model.specs.declared.replies.LaneReplies.{LaneReplies}
+use Rattle.flt_life_model.specs.Actions.{action_of, arm_count, arms_of, response_size}
+use Rattle.flt_life_model.specs.Answers.{Told}
+use Rattle.flt_life_model.specs.Going.{GoesOn, WereGiven}
+use Rattle.flt_life_model.specs.Ordered.{Deed, with_deed}
+use Rattle.flt_life_model.specs.Room.{HasRoomForSteps, told_in}
 use Rattle.flt_shared.specs.Call.{Seat}
 use Rattle.flt_lane.specs.Living.{Carries}
 use Rattle.flt_lane.specs.Runs.{Makes, Queues, QueueSeat}

@@ -2,11 +2,11 @@
 use Rattle.std.specs.Prelude.{◌≡◌, ◌≢◌, ◌⊎◌, ◌<◌, ◌≤◌, ℕ, Bool, true, false, List, [], ◌++◌, All, length, reverse, slice_index_or}
 use Rattle.flt_flash.specs.declared.blocks.Blocks.{Ghosts}
 use Rattle.flt_config.specs.declared.config.Config.{Config}
-use Rattle.flt_script.specs.Step.{has_store_step}
+use Rattle.flt_step.specs.Step.{has_store_step}
 use Rattle.flt_store.specs.declared.store.Store.{Store}
 use Rattle.flt_store.specs.Store.{IsAlive, driver_of}
-use Rattle.flt_life.specs.Ordered.{Deed, lane_deeds}
-use Rattle.flt_life.specs.Going.{GoesOn, WereGiven}
+use Rattle.flt_life_model.specs.Ordered.{Deed, lane_deeds}
+use Rattle.flt_life_model.specs.Going.{GoesOn, WereGiven}
 use Rattle.flt_lane.specs.declared.lane.LaneWork.{LaneWork}
 use Rattle.flt_lane.specs.Living.{Carries}
 use Rattle.flt_lane.specs.Work.{HasConfig, HasRun}

@@ -3,9 +3,9 @@ use Rattle.std.specs.Prelude.{◌≡◌, ◌≤◌, ◌++◌, List, All, length}
 use Rattle.flt_config.specs.declared.config.Config.{Config}
 use Rattle.flt_config.specs.Durable.{Fits}
 use Rattle.flt_config.specs.Validity.{IsValid}
-use Rattle.flt_life.specs.Answers.{Told}
-use Rattle.flt_life.specs.Parts.{IsPossibleInLane, calls_of, queued_of}
-use Rattle.flt_life.specs.Room.{HasRoomForSteps, told_in}
+use Rattle.flt_life_model.specs.Answers.{Told}
+use Rattle.flt_life_model.specs.Parts.{IsPossibleInLane, calls_of, queued_of}
+use Rattle.flt_life_model.specs.Room.{HasRoomForSteps, told_in}
 use Rattle.flt_turn.specs.Seats as turn
 use Rattle.flt_shared.specs.Call.{Seat}
 use Rattle.flt_queue.specs.declared.lock.QueueLock.{QueueLock}

@@ -1,12 +1,12 @@
 //! A block: its lanes get their seats, run, and are joined.
 ghost use Rattle.std.specs.Prelude.{◌≡◌, ◌<◌, ◌≤◌, ◌+◌, ◌^◌, ◌∷◌, All, List, length, map, vec_len};
 ghost use Rattle.std.specs.Vec.{vec_capacity};
-ghost use Rattle.flt_script.specs.Step.{store_lanes};
+ghost use Rattle.flt_step.specs.Step.{store_lanes};
 ghost use Rattle.flt_store.specs.Store.{IsAlive, driver_of};
 ghost use Rattle.flt_turn.specs.Seats as turn;
 ghost use Rattle.flt_shared.specs.Lock.{IsSeatOf};
-ghost use Rattle.flt_life.specs.Room.{steps_of, told_in};
-ghost use Rattle.flt_life.specs.declared.room.LaneRoom.{LaneRoom as RoomView};
+ghost use Rattle.flt_life_model.specs.Room.{steps_of, told_in};
+ghost use Rattle.flt_life_model.specs.declared.room.LaneRoom.{LaneRoom as RoomView};
 ghost use Rattle.flt_lane.specs.declared.lane.LaneWork.{LaneWork};
 ghost use Rattle.flt_lane.specs.BlockRun.{HasRunLanes};
 ghost use Rattle.flt_fork.specs.Lived.{IsMain};
@@ -22,7 +22,7 @@ use crate::room::BlockRoom;
 use flt_config::ValidConfig;
 use flt_flash::Blocks;
 use flt_fork::{Passing, pass_all};
-use flt_life::{CallRoom, LaneReplies, LaneRoom};
+use flt_life_model::{CallRoom, LaneReplies, LaneRoom};
 use flt_store::Store;
 use std::marker::Sync;
 use std::sync::Wait;

@@ -1,13 +1,13 @@
 //! A drain: jobs are taken from the queue, written, and noted as done.
 ghost use Rattle.std.specs.Prelude.{◌≡◌, ◌≤◌};
 ghost use Rattle.flt_config.specs.declared.config.Config.{Config};
-ghost use Rattle.flt_life.specs.declared.action.Action.TheVariants as action;
+ghost use Rattle.flt_life_model.specs.declared.action.Action.TheVariants as action;
 ghost use Rattle.flt_queue.specs.Call as queued;
 ghost use Rattle.flt_queue.specs.Queue.{IsJob};
 ghost use Rattle.flt_queue.specs.declared.job.QueueOp.TheVariants as ops;
 ghost use Rattle.flt_queue.specs.declared.job.QueueReply.{QueueReply as Replied};
 ghost use Rattle.flt_turn.specs.declared.answer.Answer.{Answer};
-ghost use Rattle.flt_script.specs.declared.step.Step.TheVariants as steps;
+ghost use Rattle.flt_step.specs.declared.step.Step.TheVariants as steps;
 ghost use Rattle.flt_store.specs.Store.{IsAlive};
 ghost use Rattle.flt_shared.specs.Call.{Seat};
 ghost use Rattle.flt_turn.specs.Seats as turn;
@@ -17,7 +17,7 @@ ghost use Rattle.flt_lane.specs.Work.{CanDrain};
 
 use flt_config::ValidConfig;
 use flt_flash::Blocks;
-use flt_life::{LaneReplies, StepAnswer};
+use flt_life_model::{LaneReplies, StepAnswer};
 use flt_queue::{Job, QueueLock, QueueReply, QueueSeat, WAITING};
 use flt_store::Store;
 use std::sync::Wait;

@@ -1,7 +1,7 @@
 //! Where a lane may be held.
 ghost use Rattle.std.specs.Prelude.{◌≡◌, ◌≤◌, All, map};
 ghost use Rattle.std.specs.Thread.{IsSync};
-ghost use Rattle.flt_script.specs.Step.{store_lanes};
+ghost use Rattle.flt_step.specs.Step.{store_lanes};
 ghost use Rattle.flt_store.specs.Store.{IsAlive, driver_of};
 ghost use Rattle.flt_lane.specs.Stored.{AreRun};
 ghost use Rattle.flt_lane.specs.Work.{AreSeatsOf, HasConfig, IsPrepared};

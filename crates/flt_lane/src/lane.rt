@@ -1,6 +1,6 @@
 //! One lane, and the lanes of a block at once.
 ghost use Rattle.std.specs.Prelude.{◌≡◌, ◌≤◌, All, IfNone, IfSome, false, map};
-ghost use Rattle.flt_script.specs.Step.{store_lanes};
+ghost use Rattle.flt_step.specs.Step.{store_lanes};
 ghost use Rattle.flt_store.specs.Store.{IsAlive, driver_of};
 ghost use Rattle.flt_lane.specs.Work.{AreSeatsOf, HasConfig, IsPrepared, HasRun};
 ghost use Rattle.flt_lane.specs.Stored.{AreRun, CanStore, HasRunStore, HaveRun, RunsStore, StoresAt, is_store_lane};
@@ -13,8 +13,8 @@ use arrayvec::ArrayVec;
 use flt_config::ValidConfig;
 use flt_flash::Blocks;
 use flt_fork::{Owned, Work, work_beside, work_first};
-use flt_life::{LaneReplies, action_of};
-use flt_script::Step;
+use flt_life_model::{LaneReplies, action_of};
+use flt_step::Step;
 use flt_store::Store;
 use std::marker::Sync;
 use std::sync::Wait;

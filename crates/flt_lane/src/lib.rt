@@ -1,9 +1,9 @@
 //! The lanes of a life under the lock: lane 0 makes the steps by themselves, over the store where they need it, and the lanes of each
 //! block make theirs at the same time as one another, at most one of them over the store.
 //!
-//! Stands on `flt_fork` for lanes at once, on `flt_shared` and `flt_queue` for the locks, on `flt_store`, and on `flt_life` for what a
+//! Stands on `flt_fork` for lanes at once, on `flt_shared` and `flt_queue` for the locks, on `flt_store`, and on `flt_life_model` for what a
 //! life is told in and for what goes on in it. The layer above, `flt_run`, takes the memory of a life by `part_rooms` and carries
-//! out its parts by `run_parts`; what the journal and the answers of a life are is said in `specs/Played.antt` of `flt_life`.
+//! out its parts by `run_parts`; what the journal and the answers of a life are is said in `specs/Played.antt` of `flt_life_model`.
 //! Read `specs/Living.antt` first (what the saves leave while a life goes on), then `specs/Block.antt`. What holds of lanes over any
 //! machine stands in `flt_fork`.
 #![tactic(auto)]

@@ -1,14 +1,14 @@
 //! What the blocks of a life take of memory: all of it at its start.
 ghost use Rattle.std.specs.Prelude.{◌≡◌, ◌≤◌, ◌++◌, ◌∷◌, [], List, All, IfOk, OnOk, length, map};
-ghost use Rattle.flt_life.specs.Parts.{lanes_in};
-ghost use Rattle.flt_life.specs.Room.{IsLaneRoom, steps_of};
-ghost use Rattle.flt_script.specs.Part.{part_of, parts_of};
-ghost use Rattle.flt_script.specs.declared.step.Step.{Step};
+ghost use Rattle.flt_life_model.specs.Parts.{lanes_in};
+ghost use Rattle.flt_life_model.specs.Room.{IsLaneRoom, steps_of};
+ghost use Rattle.flt_step.specs.Part.{part_of, parts_of};
+ghost use Rattle.flt_step.specs.declared.step.Step.{Step};
 ghost use Rattle.flt_lane.specs.Room.{IsPartRoom, part_in};
 
 use crate::lane::LaneWork;
-use flt_life::LaneRoom;
-use flt_script::{Part, Step};
+use flt_life_model::LaneRoom;
+use flt_step::{Part, Step};
 use std::alloc::{AllocError, Global};
 use std::vec::IntoIter;
 

@@ -2,10 +2,10 @@
 ghost use Rattle.std.specs.Prelude.{◌≡◌, ◌+◌, ◌<◌, ◌≤◌};
 ghost use Rattle.flt_config.specs.declared.config.Config.{Config};
 ghost use Rattle.flt_flash.specs.State.{CanArm};
-ghost use Rattle.flt_life.specs.Actions.{IsPossible, action_of, arm_count, call_count, queue_count};
-ghost use Rattle.flt_life.specs.declared.action.Action.TheVariants as action;
-ghost use Rattle.flt_script.specs.declared.step.Step.{Step as StepView};
-ghost use Rattle.flt_script.specs.declared.step.Step.TheVariants as steps;
+ghost use Rattle.flt_life_model.specs.Actions.{IsPossible, action_of, arm_count, call_count, queue_count};
+ghost use Rattle.flt_life_model.specs.declared.action.Action.TheVariants as action;
+ghost use Rattle.flt_step.specs.declared.step.Step.{Step as StepView};
+ghost use Rattle.flt_step.specs.declared.step.Step.TheVariants as steps;
 ghost use Rattle.flt_shared.specs.Call.{Seat as DemView};
 ghost use Rattle.flt_shared.specs.Lock.{IsSeatOf};
 ghost use Rattle.flt_store.specs.Store.{IsAlive, driver_of};
@@ -20,10 +20,10 @@ use crate::locks::{Common, Locks, Seats};
 use arrayvec::ArrayVec;
 use flt_config::{ValidConfig, initial};
 use flt_flash::{Arm, Blocks};
-use flt_life::{Action, LaneReplies, StepAnswer, action_of};
+use flt_life_model::{Action, LaneReplies, StepAnswer, action_of};
 use flt_model::RESPONSE;
-use flt_script::Step;
 use flt_shared::{DemLock, DemSeat};
+use flt_step::Step;
 use flt_store::Store;
 use std::sync::Wait;
 

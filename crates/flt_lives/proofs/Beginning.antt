@@ -3,7 +3,7 @@ use Rattle.std.proofs.Common.{◌≡◌, ℕ, ◌<◌, ◌≤◌, List, [], ◌�
 use Rattle.std.proofs.lemmas.List.{append-nil, length-append}
 use Rattle.flt_flash.specs.State.{PowerUp}
 use Rattle.flt_flash.specs.Blocks.{DeviceState}
-use Rattle.flt_life.specs.Moment.{boot_in}
+use Rattle.flt_life_model.specs.Moment.{boot_in}
 use Rattle.flt_lives.specs.Devices.{BeginsFrom, BeginsLives}
 
 -- None.

@@ -9,11 +9,11 @@ use Rattle.flt_store.specs.Cause.{HasRoom}
 use Rattle.flt_store.specs.Store.{driver_of}
 use Rattle.flt_store.specs.declared.store.Store.{Store}
 use Rattle.flt_config.specs.declared.config.Config.{Config}
-use Rattle.flt_script.specs.declared.step.Part.{Part}
-use Rattle.flt_script.specs.Part.{parts_of}
-use Rattle.flt_life.specs.declared.life.Life.{Life}
-use Rattle.flt_life.specs.Moment.{Moment, Medium, IsOn, IsSoundAt, moment_of}
-use Rattle.flt_life.specs.Lives.{ArePlayed, AreEnded, AreGiven, IsLinked, StaysSound, arms_given, lists, lives_seen}
+use Rattle.flt_step.specs.declared.step.Part.{Part}
+use Rattle.flt_step.specs.Part.{parts_of}
+use Rattle.flt_life_model.specs.declared.life.Life.{Life}
+use Rattle.flt_life_model.specs.Moment.{Moment, Medium, IsOn, IsSoundAt, moment_of}
+use Rattle.flt_life_model.specs.Lives.{ArePlayed, AreEnded, AreGiven, IsLinked, StaysSound, arms_given, lists, lives_seen}
 use Rattle.flt_lives.specs.Devices.{BeginsLives, DeviceStaysSound, LivesOn}
 use Rattle.flt_lives.specs.Linked.{KeepsOn}
 use Rattle.flt_lives.proofs.Linking.{at_moment}

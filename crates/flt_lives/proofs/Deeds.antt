@@ -6,24 +6,24 @@ use Rattle.std.proofs.lemmas.List.Elements.{All-nil, All-cons, All-head, All-tai
 use Rattle.flt_flash.specs.Content.{Content}
 use Rattle.flt_config.specs.declared.config.Config.{Config}
 use Rattle.flt_config.specs.Validity.{IsValid}
-use Rattle.flt_generation.specs.Holding.{SameApplications}
-use Rattle.flt_generation.specs.Layout.{applications, application_number}
+use Rattle.flt_store_model.specs.Holding.{SameApplications}
+use Rattle.flt_store_model.specs.Layout.{applications, application_number}
 use Rattle.flt_queue.specs.Queue.{History}
-use Rattle.flt_script.specs.declared.step.Step.{Step}
-use Rattle.flt_script.specs.Part.{PartOf}
-use Rattle.flt_script.specs.Step.{is_store_step}
-use Rattle.flt_life.specs.Actions.{IsPossible, action_of}
-use Rattle.flt_life.specs.Answers.{Told}
-use Rattle.flt_life.specs.Applications.{AreGot, GetsBy, HoldApplications, MayHold, jobs_told, up_to_done}
-use Rattle.flt_life.specs.declared.action.Action.{Action}
-use Rattle.flt_life.specs.declared.action.Action.TheVariants as action
-use Rattle.flt_life.specs.Chain.{KeepsApplications, LifeView, deeds_of, queue_of}
-use Rattle.flt_life.specs.Moment.{Moment}
-use Rattle.flt_life.specs.Ordered.{Deed, block_deeds, deed_if, deeds_in, lane_deeds, with_deed}
-use Rattle.flt_life.specs.Parts.{IsPossibleInLane, IsPossiblePart, own_steps}
-use Rattle.flt_life.proofs.DeedLists.{deed_if-append}
-use Rattle.flt_life.proofs.ByAction.{touches_by, touches_store}
-use Rattle.flt_life.proofs.Reading.{gets_also}
+use Rattle.flt_step.specs.declared.step.Step.{Step}
+use Rattle.flt_step.specs.Part.{PartOf}
+use Rattle.flt_step.specs.Step.{is_store_step}
+use Rattle.flt_life_model.specs.Actions.{IsPossible, action_of}
+use Rattle.flt_life_model.specs.Answers.{Told}
+use Rattle.flt_life_model.specs.Applications.{AreGot, GetsBy, HoldApplications, MayHold, jobs_told, up_to_done}
+use Rattle.flt_life_model.specs.declared.action.Action.{Action}
+use Rattle.flt_life_model.specs.declared.action.Action.TheVariants as action
+use Rattle.flt_life_model.specs.Chain.{KeepsApplications, LifeView, deeds_of, queue_of}
+use Rattle.flt_life_model.specs.Moment.{Moment}
+use Rattle.flt_life_model.specs.Ordered.{Deed, block_deeds, deed_if, deeds_in, lane_deeds, with_deed}
+use Rattle.flt_life_model.specs.Parts.{IsPossibleInLane, IsPossiblePart, own_steps}
+use Rattle.flt_life_model.proofs.DeedLists.{deed_if-append}
+use Rattle.flt_life_model.proofs.ByAction.{touches_by, touches_store}
+use Rattle.flt_life_model.proofs.Reading.{gets_also}
 use Rattle.flt_lives.specs.Alone.{AreAlone, IsAlone, IsPlain}
 use Rattle.flt_lives.specs.Living.{deeds_told, with_answer}
 

@@ -5,19 +5,19 @@ use Rattle.std.proofs.lemmas.List.{reverse-append, length-append, length-reverse
 use Rattle.std.proofs.lemmas.List.Elements.{All-nil, All-cons, All-tail}
 use Rattle.flt_flash.specs.declared.blocks.Blocks.{Ghosts}
 use Rattle.flt_config.specs.declared.config.Config.{Config}
-use Rattle.flt_script.specs.declared.step.Part.{Part}
-use Rattle.flt_script.specs.declared.step.Step.{Step}
-use Rattle.flt_script.specs.Part.{PartOf, parts_of}
+use Rattle.flt_step.specs.declared.step.Part.{Part}
+use Rattle.flt_step.specs.declared.step.Step.{Step}
+use Rattle.flt_step.specs.Part.{PartOf, parts_of}
 use Rattle.flt_store.specs.declared.store.Store.{Store}
 use Rattle.flt_store.specs.Store.{driver_of}
 use Rattle.flt_store.specs.Cause.{HasRoom}
-use Rattle.flt_life.specs.declared.life.Life.{Life}
-use Rattle.flt_life.specs.Chain.{LifeView}
-use Rattle.flt_life.specs.Going.{AddsLife, WereGiven, WereGivenIn}
-use Rattle.flt_life.specs.Lives.{ArePlayed, AreEnded, arms_by, arms_given, is_refused, lists, lives_seen, view_of, views_of}
-use Rattle.flt_life.specs.Moment.{Medium, boot_of}
-use Rattle.flt_life.specs.Played.{IsPlayed}
-use Rattle.flt_life.proofs.Giving.{none_added, more_given}
+use Rattle.flt_life_model.specs.declared.life.Life.{Life}
+use Rattle.flt_life_model.specs.Chain.{LifeView}
+use Rattle.flt_life_model.specs.Going.{AddsLife, WereGiven, WereGivenIn}
+use Rattle.flt_life_model.specs.Lives.{ArePlayed, AreEnded, arms_by, arms_given, is_refused, lists, lives_seen, view_of, views_of}
+use Rattle.flt_life_model.specs.Moment.{Medium, boot_of}
+use Rattle.flt_life_model.specs.Played.{IsPlayed}
+use Rattle.flt_life_model.proofs.Giving.{none_added, more_given}
 use Rattle.flt_lives.specs.Devices.{BeginsLives}
 use Rattle.flt_lives.specs.Linked.{KeepsOn, IsLinkedBy}
 use Rattle.flt_lives.specs.Living.{IsLived}

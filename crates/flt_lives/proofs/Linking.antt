@@ -10,19 +10,19 @@ use Rattle.flt_flash.specs.declared.arm.ArmMade.{ArmMade}
 use Rattle.flt_flash.specs.State.{HasRisenBy, PowerUp}
 use Rattle.flt_flash.specs.Blocks.{BlocksState}
 use Rattle.flt_config.specs.declared.config.Config.{Config}
-use Rattle.flt_generation.specs.declared.place.Place.TheVariants.{Page, Block}
-use Rattle.flt_generation.specs.Holding.{Generation, Fault}
+use Rattle.flt_store_model.specs.declared.place.Place.TheVariants.{Page, Block}
+use Rattle.flt_store_model.specs.Holding.{Generation, Fault}
 use Rattle.flt_restore.specs.declared.fault.StartFault.{StartFault}
 use Rattle.flt_restore.specs.declared.fault.StartFault.TheVariants as faults
 use Rattle.std.specs.Prelude.{Result}
-use Rattle.flt_life.specs.declared.life.Boot.{Boot}
-use Rattle.flt_life.specs.declared.life.Boot.TheVariants.{Started, Dark, Refused}
-use Rattle.flt_life.specs.Moment.{Moment, Medium, IsOn, moment_of, moment_at, boot_of}
-use Rattle.flt_life.specs.Chain.{LifeView, IsFound, Finds, IsRefused, IsLifeBetween, IsLifeBegunBy, AreLinked, arms_between, start_count, count_at}
-use Rattle.flt_life.specs.Going.{IsMadeIn, AddsArms, ArmsSince, AddsLife}
+use Rattle.flt_life_model.specs.declared.life.Boot.{Boot}
+use Rattle.flt_life_model.specs.declared.life.Boot.TheVariants.{Started, Dark, Refused}
+use Rattle.flt_life_model.specs.Moment.{Moment, Medium, IsOn, moment_of, moment_at, boot_of}
+use Rattle.flt_life_model.specs.Chain.{LifeView, IsFound, Finds, IsRefused, IsLifeBetween, IsLifeBegunBy, AreLinked, arms_between, start_count, count_at}
+use Rattle.flt_life_model.specs.Going.{IsMadeIn, AddsArms, ArmsSince, AddsLife}
 use Rattle.flt_lives.specs.Living.{IsLived}
 use Rattle.flt_lives.specs.Linked.{IsPast, ArePast, AreLinkedBy, MadeInRun, IsLinkedBy}
-use Rattle.flt_life.specs.Lives.{IsLinked}
+use Rattle.flt_life_model.specs.Lives.{IsLinked}
 
 -- ---- a later count
 

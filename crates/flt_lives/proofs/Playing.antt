@@ -11,27 +11,27 @@ use Rattle.flt_model.specs.Answer.{answer}
 use Rattle.flt_model.specs.declared.call.Op.{Op}
 use Rattle.flt_model.specs.declared.call.Op.TheVariants as ops
 use Rattle.flt_queue.specs.Call as queued
-use Rattle.flt_script.specs.declared.step.Step.{Step}
-use Rattle.flt_script.specs.Part.{PartOf}
-use Rattle.flt_life.specs.declared.action.Action.{Action}
-use Rattle.flt_life.specs.declared.action.Action.TheVariants as actions
-use Rattle.flt_life.specs.declared.answer.StepAnswer.TheVariants as answers
-use Rattle.flt_life.specs.Actions.{action_of}
-use Rattle.flt_life.specs.Answers.{Told}
-use Rattle.flt_life.specs.Journal.{Journal}
-use Rattle.flt_life.specs.Making.{PartsMake}
+use Rattle.flt_step.specs.declared.step.Step.{Step}
+use Rattle.flt_step.specs.Part.{PartOf}
+use Rattle.flt_life_model.specs.declared.action.Action.{Action}
+use Rattle.flt_life_model.specs.declared.action.Action.TheVariants as actions
+use Rattle.flt_life_model.specs.declared.answer.StepAnswer.TheVariants as answers
+use Rattle.flt_life_model.specs.Actions.{action_of}
+use Rattle.flt_life_model.specs.Answers.{Told}
+use Rattle.flt_life_model.specs.Journal.{Journal}
+use Rattle.flt_life_model.specs.Making.{PartsMake}
 use Rattle.flt_fork.specs.Mixing.{Call, Block, Mixes, HasInOrder, asked_of, ops_asked, IsToldInPlace, BlockTold, Rise}
-use Rattle.flt_life.specs.Parts.{widths}
+use Rattle.flt_life_model.specs.Parts.{widths}
 use Rattle.flt_config.specs.declared.config.Config.{Config}
 use Rattle.flt_config.specs.declared.persist.Persist.{Persist}
-use Rattle.flt_life.specs.declared.life.Boot.{Boot}
-use Rattle.flt_life.specs.declared.life.Boot.TheVariants.{Started}
-use Rattle.flt_life.specs.declared.replies.LaneReplies.{LaneReplies}
-use Rattle.flt_life.specs.Chain.{LifeView, start_from}
-use Rattle.flt_life.specs.Room.{told_in}
+use Rattle.flt_life_model.specs.declared.life.Boot.{Boot}
+use Rattle.flt_life_model.specs.declared.life.Boot.TheVariants.{Started}
+use Rattle.flt_life_model.specs.declared.replies.LaneReplies.{LaneReplies}
+use Rattle.flt_life_model.specs.Chain.{LifeView, start_from}
+use Rattle.flt_life_model.specs.Room.{told_in}
 use Rattle.flt_queue.specs.declared.job.QueueOp.{QueueOp}
-use Rattle.flt_life.specs.Played.{ActionMakes, ActionQueues, IsLife, IsMade, IsPlayed, StepMakes, StepQueues, reply_after}
-use Rattle.flt_life.proofs.Makings.{parts_more, parts_none}
+use Rattle.flt_life_model.specs.Played.{ActionMakes, ActionQueues, IsLife, IsMade, IsPlayed, StepMakes, StepQueues, reply_after}
+use Rattle.flt_life_model.proofs.Makings.{parts_more, parts_none}
 use Rattle.flt_fork.proofs.Mixings.{blocks_longer, follow_more, one_follows}
 use Rattle.flt_fork.proofs.Rising.{rise_alone, rise_more, rise_none}
 use Rattle.flt_lives.specs.Carried.{IsCarriedOut}

@@ -13,27 +13,27 @@ use Rattle.flt_model.specs.Start.{Start, History}
 use Rattle.flt_model.specs.declared.TheConstants.{RESPONSE}
 use Rattle.flt_model.specs.declared.call.Op.{Op}
 use Rattle.flt_model.specs.declared.call.Op.TheVariants as ops
-use Rattle.flt_life.specs.Answers.{reply_size}
-use Rattle.flt_life.specs.declared.action.Action.{Action}
-use Rattle.flt_life.specs.declared.action.Action.TheVariants.{Call, Queue, Save, Drain, Get, Arm}
-use Rattle.flt_script.specs.declared.step.Part.{Part}
-use Rattle.flt_script.specs.declared.step.Part.TheVariants.{One}
-use Rattle.flt_script.specs.declared.step.Step.{Step}
-use Rattle.flt_script.specs.Part.{PartOf, part_of, parts_of}
-use Rattle.flt_life.specs.Actions.{IsPossible, IsPossibleArm, action_of, arm_count, call_count, response_size}
-use Rattle.flt_life.specs.Parts.{IsPossibleInLane, IsPossiblePart, arms_in, calls_in, lanes_in, own_actions, own_steps, steps_in}
-use Rattle.flt_life.specs.declared.answer.StepAnswer.TheVariants as answers
-use Rattle.flt_life.specs.Played.{dark_answer}
+use Rattle.flt_life_model.specs.Answers.{reply_size}
+use Rattle.flt_life_model.specs.declared.action.Action.{Action}
+use Rattle.flt_life_model.specs.declared.action.Action.TheVariants.{Call, Queue, Save, Drain, Get, Arm}
+use Rattle.flt_step.specs.declared.step.Part.{Part}
+use Rattle.flt_step.specs.declared.step.Part.TheVariants.{One}
+use Rattle.flt_step.specs.declared.step.Step.{Step}
+use Rattle.flt_step.specs.Part.{PartOf, part_of, parts_of}
+use Rattle.flt_life_model.specs.Actions.{IsPossible, IsPossibleArm, action_of, arm_count, call_count, response_size}
+use Rattle.flt_life_model.specs.Parts.{IsPossibleInLane, IsPossiblePart, arms_in, calls_in, lanes_in, own_actions, own_steps, steps_in}
+use Rattle.flt_life_model.specs.declared.answer.StepAnswer.TheVariants as answers
+use Rattle.flt_life_model.specs.Played.{dark_answer}
 use Rattle.flt_fork.proofs.Blocks.{all_left, all_right}
-use Rattle.flt_life.proofs.Sizes.{own_more, own_steps-append, parts_more_by}
-use Rattle.flt_script.specs.Step.{is_lane_step}
+use Rattle.flt_life_model.proofs.Sizes.{own_more, own_steps-append, parts_more_by}
+use Rattle.flt_step.specs.Step.{is_lane_step}
 use Rattle.flt_lives.specs.Alone.{IsAlone, AreAlone, actions_in}
 use Rattle.flt_lives.specs.Dark.{IsLaneSteps}
 use Rattle.flt_lives.specs.declared.account.Account.{Account}
 use Rattle.flt_lives.specs.Living.{HasRoomFor}
-use Rattle.flt_life.proofs.Calls.{call_most}
-use Rattle.flt_life.proofs.ByAction.{may_stand, stands}
-use Rattle.flt_life.proofs.Responses.{answer_size, size_most}
+use Rattle.flt_life_model.proofs.Calls.{call_most}
+use Rattle.flt_life_model.proofs.ByAction.{may_stand, stands}
+use Rattle.flt_life_model.proofs.Responses.{answer_size, size_most}
 
 -- ---- bounds of one step and of all
 

@@ -7,27 +7,27 @@ use Rattle.flt_flash.specs.Calls.{Follows, SameValues, PowersUpDriver}
 use Rattle.flt_flash.specs.declared.blocks.Blocks.{Ghosts}
 use Rattle.flt_config.specs.declared.config.Config.{Config}
 use Rattle.flt_config.specs.declared.persist.Persist.{Persist}
-use Rattle.flt_generation.specs.declared.place.Place.TheVariants.{Page, Block}
-use Rattle.flt_generation.specs.Holding.{Generation, Fault, IsSound, OldOrNew, SameApplications}
+use Rattle.flt_store_model.specs.declared.place.Place.TheVariants.{Page, Block}
+use Rattle.flt_store_model.specs.Holding.{Generation, Fault, IsSound, OldOrNew, SameApplications}
 use Rattle.flt_restore.specs.Restored.{IsJudged}
 use Rattle.flt_restore.specs.declared.fault.StartFault.{StartFault}
 use Rattle.flt_restore.specs.declared.fault.StartFault.TheVariants as faults
-use Rattle.flt_script.specs.declared.step.Step.{Step}
-use Rattle.flt_script.specs.Part.{PartOf}
+use Rattle.flt_step.specs.declared.step.Step.{Step}
+use Rattle.flt_step.specs.Part.{PartOf}
 use Rattle.flt_store.specs.declared.store.Store.{Store}
 use Rattle.flt_store.specs.Store.{driver_of, numbered}
 use Rattle.flt_store.specs.Start.{Starts, RefusedFor}
-use Rattle.flt_life.specs.Moment.{Moment, moment_of, boot_of, IsSoundAt}
-use Rattle.flt_life.specs.Chain.{IsFound, Finds, KeepsSound, Unchanged, IsRefused, IsLifeBetween, IsLifeBegunBy, KeepsApplications, Leaves, LifeView, told_of}
-use Rattle.flt_life.specs.Lives.{StaysSound}
+use Rattle.flt_life_model.specs.Moment.{Moment, moment_of, boot_of, IsSoundAt}
+use Rattle.flt_life_model.specs.Chain.{IsFound, Finds, KeepsSound, Unchanged, IsRefused, IsLifeBetween, IsLifeBegunBy, KeepsApplications, Leaves, LifeView, told_of}
+use Rattle.flt_life_model.specs.Lives.{StaysSound}
 use Rattle.flt_lives.specs.Living.{IsLived}
-use Rattle.flt_life.specs.declared.life.Boot.TheVariants.{Started, Dark, Refused}
-use Rattle.flt_life.specs.declared.life.Boot.{Boot}
+use Rattle.flt_life_model.specs.declared.life.Boot.TheVariants.{Started, Dark, Refused}
+use Rattle.flt_life_model.specs.declared.life.Boot.{Boot}
 use Rattle.flt_flash.specs.State.{HasRisenBy}
-use Rattle.flt_life.specs.Answers.{Told}
-use Rattle.flt_life.specs.Causes.{AreCaused}
-use Rattle.flt_life.specs.Going.{ArmsSince, GoesOn}
-use Rattle.flt_life.proofs.Riding.{goes_nowhere}
+use Rattle.flt_life_model.specs.Answers.{Told}
+use Rattle.flt_life_model.specs.Causes.{AreCaused}
+use Rattle.flt_life_model.specs.Going.{ArmsSince, GoesOn}
+use Rattle.flt_life_model.proofs.Riding.{goes_nowhere}
 
 -- A fault that does not make the life dark.
 abbrev pub Refuses : StartFault → Type 0

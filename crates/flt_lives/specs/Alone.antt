@@ -1,13 +1,13 @@
 -- Lives of lane 0 alone, without blocks of lanes and without write jobs.
 use Rattle.std.specs.Prelude.{List, All}
 use Rattle.std.proofs.Common.{inl, inr}
-use Rattle.flt_script.specs.declared.step.Part.{Part}
-use Rattle.flt_script.specs.declared.step.Step.{Step}
-use Rattle.flt_script.specs.Part.{PartOf, parts_of}
-use Rattle.flt_life.specs.declared.action.Action.{Action}
-use Rattle.flt_life.specs.declared.action.Action.TheVariants.{Queue, Drain, Get}
-use Rattle.flt_life.specs.Actions.{action_of}
-use Rattle.flt_life.specs.Parts.{own_actions}
+use Rattle.flt_step.specs.declared.step.Part.{Part}
+use Rattle.flt_step.specs.declared.step.Step.{Step}
+use Rattle.flt_step.specs.Part.{PartOf, parts_of}
+use Rattle.flt_life_model.specs.declared.action.Action.{Action}
+use Rattle.flt_life_model.specs.declared.action.Action.TheVariants.{Queue, Drain, Get}
+use Rattle.flt_life_model.specs.Actions.{action_of}
+use Rattle.flt_life_model.specs.Parts.{own_actions}
 
 -- A step that leaves the queue and the application blocks alone.
 abbrev pub IsPlain : Action → Type 0

@@ -6,11 +6,11 @@ use Rattle.flt_model.specs.Answer.{answer}
 use Rattle.flt_model.specs.declared.call.Op.{Op}
 use Rattle.flt_model.specs.declared.call.Op.TheVariants as ops
 use Rattle.flt_model.specs.Reply.{Reply}
-use Rattle.flt_life.specs.declared.action.Action.{Action}
-use Rattle.flt_life.specs.declared.action.Action.TheVariants as actions
-use Rattle.flt_life.specs.Answers.{Told}
-use Rattle.flt_life.specs.declared.answer.StepAnswer.TheVariants as answers
-use Rattle.flt_life.specs.Journal.{Journal, entry, calls_of}
+use Rattle.flt_life_model.specs.declared.action.Action.{Action}
+use Rattle.flt_life_model.specs.declared.action.Action.TheVariants as actions
+use Rattle.flt_life_model.specs.Answers.{Told}
+use Rattle.flt_life_model.specs.declared.answer.StepAnswer.TheVariants as answers
+use Rattle.flt_life_model.specs.Journal.{Journal, entry, calls_of}
 
 -- The machine's answer to a call behind these, at its place.
 abbrev pub answer_at : Start → Journal → Op → Answer Reply

@@ -4,13 +4,13 @@ use Rattle.flt_flash.specs.State.{FlashState, PowerUp}
 use Rattle.flt_flash.specs.Blocks.{DeviceState}
 use Rattle.flt_config.specs.declared.config.Config.{Config}
 use Rattle.flt_config.specs.Validity.{IsValid}
-use Rattle.flt_script.specs.declared.step.Part.{Part}
-use Rattle.flt_script.specs.declared.step.Step.{Step}
-use Rattle.flt_script.specs.Part.{PartOf, parts_of}
-use Rattle.flt_life.specs.declared.life.Life.{Life}
-use Rattle.flt_life.specs.Lives.{ArePlayed, AreEnded, AreGiven, IsLinked, StaysSound, arms_given, lives_seen}
-use Rattle.flt_life.specs.Moment.{Medium, moment_at, boot_in}
-use Rattle.flt_life.specs.Parts.{IsPossiblePart, arms_in, steps_in, widths}
+use Rattle.flt_step.specs.declared.step.Part.{Part}
+use Rattle.flt_step.specs.declared.step.Step.{Step}
+use Rattle.flt_step.specs.Part.{PartOf, parts_of}
+use Rattle.flt_life_model.specs.declared.life.Life.{Life}
+use Rattle.flt_life_model.specs.Lives.{ArePlayed, AreEnded, AreGiven, IsLinked, StaysSound, arms_given, lives_seen}
+use Rattle.flt_life_model.specs.Moment.{Medium, moment_at, boot_in}
+use Rattle.flt_life_model.specs.Parts.{IsPossiblePart, arms_in, steps_in, widths}
 
 -- Lives can be made on a device: it has a boot for each, their parts are possible, and their steps, their parts with the lanes of these,
 -- and the arms are few.

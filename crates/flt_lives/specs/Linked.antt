@@ -5,10 +5,10 @@ use Rattle.flt_flash.specs.declared.blocks.Blocks.{Ghosts}
 use Rattle.flt_flash.specs.State.{HasRisenBy, PowerUp}
 use Rattle.flt_flash.specs.Blocks.{BlocksState}
 use Rattle.flt_config.specs.declared.config.Config.{Config}
-use Rattle.flt_generation.specs.Layout.{numbers}
+use Rattle.flt_store_model.specs.Layout.{numbers}
 use Rattle.flt_store.specs.Cause.{HasRoom}
-use Rattle.flt_life.specs.Moment.{Medium, IsOn, boot_of, moment_at}
-use Rattle.flt_life.specs.Chain.{LifeView, IsLifeBetween}
+use Rattle.flt_life_model.specs.Moment.{Medium, IsOn, boot_of, moment_at}
+use Rattle.flt_life_model.specs.Chain.{LifeView, IsLifeBetween}
 
 -- A driver for the numbers of an image that leaves the configuration its room keeps its blocks as this medium does.
 abbrev pub KeepsOn : {B : Type 0} → Ghosts B → Config → Medium → Type 0

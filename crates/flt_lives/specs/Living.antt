@@ -8,25 +8,25 @@ use Rattle.flt_config.specs.declared.config.Config.{Config}
 use Rattle.flt_config.specs.Durable.{Fits}
 use Rattle.flt_config.specs.Validity.{IsValid}
 use Rattle.flt_model.specs.Start.{History}
-use Rattle.flt_generation.specs.Holding.{Generation}
+use Rattle.flt_store_model.specs.Holding.{Generation}
 use Rattle.flt_dcm.specs.Unit.{UnitView, Stands}
 use Rattle.flt_store.specs.declared.store.Store.{Store}
 use Rattle.flt_store.specs.Store.{IsRunning}
-use Rattle.flt_script.specs.declared.step.Step.{Step}
-use Rattle.flt_script.specs.Part.{PartOf}
-use Rattle.flt_life.specs.declared.action.Action.{Action}
-use Rattle.flt_life.specs.declared.action.Action.TheVariants.{Save, Drain, Get}
-use Rattle.flt_life.specs.Actions.{call_count, response_size}
-use Rattle.flt_life.specs.Answers.{Told}
-use Rattle.flt_life.specs.Ordered.{deeds_in}
-use Rattle.flt_life.specs.Room.{told_in}
+use Rattle.flt_step.specs.declared.step.Step.{Step}
+use Rattle.flt_step.specs.Part.{PartOf}
+use Rattle.flt_life_model.specs.declared.action.Action.{Action}
+use Rattle.flt_life_model.specs.declared.action.Action.TheVariants.{Save, Drain, Get}
+use Rattle.flt_life_model.specs.Actions.{call_count, response_size}
+use Rattle.flt_life_model.specs.Answers.{Told}
+use Rattle.flt_life_model.specs.Ordered.{deeds_in}
+use Rattle.flt_life_model.specs.Room.{told_in}
 use Rattle.flt_lives.specs.Carried.{IsCarriedOut}
-use Rattle.flt_life.specs.Chain.{LifeView, start_from, IsLifeBetween}
-use Rattle.flt_life.specs.Journal.{Journal, calls_of}
-use Rattle.flt_life.specs.Moment.{moment_of}
+use Rattle.flt_life_model.specs.Chain.{LifeView, start_from, IsLifeBetween}
+use Rattle.flt_life_model.specs.Journal.{Journal, calls_of}
+use Rattle.flt_life_model.specs.Moment.{moment_of}
 use Rattle.flt_lives.specs.declared.account.Account.{Account}
-use Rattle.flt_life.specs.Going.{ArmsSince}
-use Rattle.flt_life.specs.SoFar.{IsCaused, IsKeptSince}
+use Rattle.flt_life_model.specs.Going.{ArmsSince}
+use Rattle.flt_life_model.specs.SoFar.{IsCaused, IsKeptSince}
 
 -- The unit stands for some calls from a base that fits a valid configuration.
 pub record IsUnderWay (c : Config) (unit : UnitView) : Type 0 where

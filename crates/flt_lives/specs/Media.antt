@@ -3,14 +3,14 @@ use Rattle.std.specs.Prelude.{◌≡◌, ℕ, ◌-◌, ◌≤◌, Bool, List}
 use Rattle.std.proofs.Common.{sym, arith}
 use Rattle.flt_flash.specs.State.{FlashState}
 use Rattle.flt_flash.specs.Blocks.{recounted}
-use Rattle.flt_sector.specs.Blocks.{block_value, current, first_fault}
+use Rattle.flt_sector_model.specs.Blocks.{block_value, current, first_fault}
 use Rattle.flt_config.specs.declared.config.Config.{Config}
-use Rattle.flt_generation.specs.Layout.{numbers}
-use Rattle.flt_whole.specs.Image.{image_damage, image_blocks}
+use Rattle.flt_store_model.specs.Layout.{numbers}
+use Rattle.flt_store_model.specs.Image.{image_damage, image_blocks}
 use Rattle.flt_fee.specs.Fee.{is_last, state_by as on_flash}
 use Rattle.flt_ea.specs.Driver.{state_by as on_eeprom}
 use Rattle.flt_ea.specs.Image.{value_in, damage_in, is_spent_in}
-use Rattle.flt_life.specs.Moment.{Medium, IsOn}
+use Rattle.flt_life_model.specs.Moment.{Medium, IsOn}
 
 -- The first pages of each sector of a flash, as many as the configuration has, hold the blocks of an image.
 abbrev pub sectors : Config → Medium

@@ -1,5 +1,5 @@
 //! What a life of lane 0 has come to so far.
-use flt_life::{Entry, LaneReplies};
+use flt_life_model::{Entry, LaneReplies};
 use flt_model::Op;
 
 /// The calls of a life and the answers to its steps, as far as they are made.

@@ -1,25 +1,25 @@
 //! Lives whose start-up met three faults of the device: they make no step but arms.
 ghost use Rattle.std.specs.Prelude.{◌≡◌, ◌+◌, ◌≤◌, ◌++◌, ◌∷◌, [], ℕ, All, List, length, map, sum_by, vec_len};
 ghost use Rattle.std.specs.Vec.{vec_capacity};
-ghost use Rattle.flt_script.specs.Part.{part_of, parts_of};
+ghost use Rattle.flt_step.specs.Part.{part_of, parts_of};
 ghost use Rattle.flt_store.specs.Store.{driver_of};
-ghost use Rattle.flt_life.specs.Actions.{IsPossibleArm, arm_count, arms_of, all_arms};
-ghost use Rattle.flt_life.specs.Answers.{told_with, response_length};
-ghost use Rattle.flt_life.specs.declared.life.Boot.TheVariants as boots;
-ghost use Rattle.flt_life.specs.Lives.{view_of};
-ghost use Rattle.flt_life.specs.Moment.{moment_of};
-ghost use Rattle.flt_life.specs.Parts.{arms_in, lanes_in, own_actions, own_steps};
-ghost use Rattle.flt_life.specs.Played.{dark_answer, dark_answers};
-ghost use Rattle.flt_life.specs.Room.{HasRoomForSteps, IsLaneRoom, IsLifeRoom, steps_of, told_in};
+ghost use Rattle.flt_life_model.specs.Actions.{IsPossibleArm, arm_count, arms_of, all_arms};
+ghost use Rattle.flt_life_model.specs.Answers.{told_with, response_length};
+ghost use Rattle.flt_life_model.specs.declared.life.Boot.TheVariants as boots;
+ghost use Rattle.flt_life_model.specs.Lives.{view_of};
+ghost use Rattle.flt_life_model.specs.Moment.{moment_of};
+ghost use Rattle.flt_life_model.specs.Parts.{arms_in, lanes_in, own_actions, own_steps};
+ghost use Rattle.flt_life_model.specs.Played.{dark_answer, dark_answers};
+ghost use Rattle.flt_life_model.specs.Room.{HasRoomForSteps, IsLaneRoom, IsLifeRoom, steps_of, told_in};
 ghost use Rattle.flt_lives.specs.Dark.{IsLaneSteps};
-ghost use Rattle.flt_life.specs.Going.{GoesOn, WereGiven};
+ghost use Rattle.flt_life_model.specs.Going.{GoesOn, WereGiven};
 
 use flt_dcm::ReplyKind;
 use flt_flash::Blocks;
-use flt_life::{
+use flt_life_model::{
     Action, Boot, LaneReplies, LaneRoom, Life, LifeRoom, StepAnswer, action_of, life_of,
 };
-use flt_script::Part;
+use flt_step::Part;
 use flt_store::Store;
 use std::alloc::Global;
 

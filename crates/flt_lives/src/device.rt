@@ -1,9 +1,9 @@
 //! Lives over a device.
 ghost use Rattle.std.specs.Prelude.{◌≡◌, All};
 ghost use Rattle.flt_dcm.specs.Whole.{config_of};
-ghost use Rattle.flt_script.specs.Part.{parts_of};
+ghost use Rattle.flt_step.specs.Part.{parts_of};
 ghost use Rattle.flt_flash.specs.Blocks.{device_of};
-ghost use Rattle.flt_life.specs.Lives.{lists};
+ghost use Rattle.flt_life_model.specs.Lives.{lists};
 ghost use Rattle.flt_lives.specs.Alone.{AreAlone};
 ghost use Rattle.flt_lives.specs.Devices.{CanLiveOn, LivesOn};
 
@@ -14,9 +14,9 @@ use crate::plain::Plain;
 use flt_config::ValidConfig;
 use flt_dcm::Unit;
 use flt_image::{block_table, fee_numbers, laws};
-use flt_life::Life;
+use flt_life_model::Life;
 use flt_nvm::Nvm;
-use flt_script::Part;
+use flt_step::Part;
 use flt_store::Store;
 use std::alloc::Global;
 
@@ -31,7 +31,7 @@ pub struct Run<D> {
 
 /// Lives one after the other over a device, up to the first that is refused, whose steps the engine makes. The device has room for the
 /// blocks of an image, and for a boot of each life; the lives have at most 65,536 steps in all, and whether their parts are possible is
-/// told by `are_possible` of flt_life.
+/// told by `are_possible` of flt_life_model.
 pub fn run_on_device<D: Driver, E: Engine<D> + Drop>(
     alloc: Global,
     engine: E,

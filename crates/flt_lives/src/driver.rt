@@ -3,10 +3,10 @@ ghost use Rattle.std.specs.Prelude.{◌≡◌, ◌≢◌, ◌≤◌, IfErr, IfOk
 ghost use Rattle.std.specs.List.{AllPairs};
 ghost use Rattle.flt_config.specs.declared.config.Config.{Config};
 ghost use Rattle.flt_flash.specs.State.{FlashState};
-ghost use Rattle.flt_generation.specs.Layout.{numbers};
+ghost use Rattle.flt_store_model.specs.Layout.{numbers};
 ghost use Rattle.flt_store.specs.Cause.{HasRoom};
 ghost use Rattle.flt_flash.specs.Blocks.{device_of};
-ghost use Rattle.flt_life.specs.Moment.{Medium};
+ghost use Rattle.flt_life_model.specs.Moment.{Medium};
 ghost use Rattle.flt_lives.specs.Linked.{KeepsOn};
 
 use flt_config::ValidConfig;

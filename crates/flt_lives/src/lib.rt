@@ -1,10 +1,10 @@
 //! Lives: each begins with a power-up and a start-up, and then an engine makes its steps. `Plain` makes those of lane 0 without a
 //! lock; the engine of lanes under the lock stands above.
 //!
-//! It stands on `flt_store` for the image, on `flt_dcm` for the machine, and on `flt_life`, whose definitions its clauses cite.
+//! It stands on `flt_store` for the image, on `flt_dcm` for the machine, and on `flt_life_model`, whose definitions its clauses cite.
 //! The layer above calls `run_on_device` with a `Driver`, over a flash or over an EEPROM; `run_lives` and `run_life` are the same over any
 //! driver of blocks. Memory is taken before the first step of a life, and in none of its steps. Read `Played`, `Chain` and `Lives` of
-//! `flt_life` first, then `specs/Devices.antt`.
+//! `flt_life_model` first, then `specs/Devices.antt`.
 #![tactic(auto)]
 
 mod account;

@@ -1,15 +1,15 @@
 //! Lives, each from its power-up on, one after the other.
 ghost use Rattle.std.specs.Prelude.{◌≡◌, ◌+◌, ◌≤◌, ◌<◌, ◌^◌, [], List, All, IfOk, OnOk, length, sum_by};
-ghost use Rattle.flt_script.specs.declared.step.Step.{Step};
-ghost use Rattle.flt_script.specs.Part.{PartOf, parts_of};
+ghost use Rattle.flt_step.specs.declared.step.Step.{Step};
+ghost use Rattle.flt_step.specs.Part.{PartOf, parts_of};
 ghost use Rattle.flt_store.specs.Store.{driver_of};
 ghost use Rattle.flt_store.specs.Cause.{HasRoom};
-ghost use Rattle.flt_life.specs.declared.life.Boot.TheVariants as boots;
-ghost use Rattle.flt_life.specs.Going.{AddsLife, WereGiven};
-ghost use Rattle.flt_life.specs.Lives.{AreEnded, AreGiven, ArePlayed, IsLinked, StaysSound, arms_by, arms_given, is_refused, lists, lives_seen, view_of};
-ghost use Rattle.flt_life.specs.Moment.{Medium, moment_of};
-ghost use Rattle.flt_life.specs.Parts.{IsPossiblePart, arms_in, steps_in, widths};
-ghost use Rattle.flt_life.specs.Played.{IsPlayed};
+ghost use Rattle.flt_life_model.specs.declared.life.Boot.TheVariants as boots;
+ghost use Rattle.flt_life_model.specs.Going.{AddsLife, WereGiven};
+ghost use Rattle.flt_life_model.specs.Lives.{AreEnded, AreGiven, ArePlayed, IsLinked, StaysSound, arms_by, arms_given, is_refused, lists, lives_seen, view_of};
+ghost use Rattle.flt_life_model.specs.Moment.{Medium, moment_of};
+ghost use Rattle.flt_life_model.specs.Parts.{IsPossiblePart, arms_in, steps_in, widths};
+ghost use Rattle.flt_life_model.specs.Played.{IsPlayed};
 ghost use Rattle.flt_lives.specs.Devices.{BeginsLives, CanLiveOn};
 ghost use Rattle.flt_lives.specs.Living.{IsLived};
 ghost use Rattle.flt_lives.specs.Linked.{KeepsOn};
@@ -19,8 +19,8 @@ use crate::dark::dark_life;
 use crate::engine::{Engine, Lived};
 use flt_config::ValidConfig;
 use flt_flash::Blocks;
-use flt_life::{Boot, Life, LifeRoom};
-use flt_script::Part;
+use flt_life_model::{Boot, Life, LifeRoom};
+use flt_step::Part;
 use flt_store::{StartFault, Store};
 use std::alloc::{AllocError, Global};
 

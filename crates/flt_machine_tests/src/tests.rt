@@ -1,11 +1,16 @@
-//! The status machine, from its configuration to the responses of testers.
+//! The status machine, from its configuration to the responses of testers; the ticket lock, the queue, and the subscribers of status
+//! changes: their table, and what they are told.
 mod comparison;
 mod configurations;
 mod debouncing;
 mod identifiers;
+mod jobs;
 mod manager;
 mod ranks;
 mod requests;
 mod statuses;
+mod subscribers;
 mod testers;
+mod told;
+mod turns;
 mod worked;

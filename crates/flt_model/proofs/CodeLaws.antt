@@ -6,12 +6,13 @@ use Rattle.std.proofs.lemmas.Bool.{cases_Bool, and_parts, and_from, ne_eqb, leb-
 use Rattle.std.proofs.lemmas.Nat.Bits.{and_pow}
 use Rattle.flt_model.specs.Happening.{all_dtcs}
 use Rattle.flt_model.specs.NegativeCode.{sub_function_not_supported, incorrect_length, request_out_of_range}
-use Rattle.flt_model.specs.Request.{Form, Plain, Masked, Recorded, Optioned, SubFunction, sub_functions, has_sub_functions, form_of, dtc_of, is_record_number, accepted, asked_in}
+use Rattle.flt_model.specs.Request.{Form, Plain, Masked, Recorded, Optioned, sub_functions, has_sub_functions, form_of, dtc_of, is_record_number, accepted, asked_in}
 use Rattle.flt_model.specs.Response.{EventView, View, is_of_dtc, positive, responded, response_to, response, negative, unless_silent}
 use Rattle.flt_model.specs.CodeLaws.{Condition, where_, first_code, conditions, lengths_of, names_unknown, IsPositive, CodesComeInOrder, SilentWhereAsked}
 use Rattle.flt_model.specs.Reply.{Reply}
 use Rattle.flt_model.specs.declared.call.ReplyOf.TheVariants.{Silent}
 use Rattle.flt_model.specs.declared.request.Request.{Request}
+use Rattle.flt_model.proofs.BytesLemmas.{AllRows, row_of}
 
 -- ---- each row of the table answers for its service
 
@@ -27,16 +28,12 @@ IsSound service (Recorded request) = (view : View) (dtc number : ℕ) →
     MatchOption (find (is_of_dtc dtc) view.events) (positive view (request dtc number) ≡ None) (λ event. Begins (service + 0x40) (positive view (request dtc number)))
 IsSound service (Optioned request) = (view : View) → Begins (service + 0x40) (positive view request)
 
-abbrev pub AllSound : List SubFunction → Type 0
-AllSound [] = Unit {0}
-AllSound (row ∷ rows) = IsSound row.service row.form × AllSound rows
-
 known_or_none : (found : Option EventView) (bytes : EventView → List ℕ) → ((event : EventView) → slice_get (bytes event) 0 ≡ Some 0x59) →
     MatchOption found (option_map bytes found ≡ None) (λ event. Begins 0x59 (option_map bytes found))
 known_or_none None bytes begins = refl
 known_or_none (Some event) bytes begins = begins event
 
-all_sound : AllSound sub_functions
+all_sound : AllRows IsSound sub_functions
 all_sound = (
   λ view. refl,
   (
@@ -86,22 +83,6 @@ all_sound = (
     ),
   ),
 )
-
-sound_in : (rows : List SubFunction) (service sub : ℕ) (form : Form) → AllSound rows →
-    option_map (λ (r : SubFunction). r.form) (find (λ (r : SubFunction). nat_eq r.service service && nat_eq r.sub sub) rows) ≡ Some form → IsSound service form
-sound_in [] service sub form sound e = absurd (cc)
-sound_in (row ∷ rows) service sub form sound e =
-    elim (cases_Bool (nat_eq row.service service && nat_eq row.sub sub)) [
-      | inl at ↦
-          let parts = and_parts (nat_eq row.service service) (nat_eq row.sub sub) at in
-          let here : Some row.form ≡ Some form = rw at at e in
-          let same : row.form ≡ form = cc in
-          subst (λ f. IsSound service f) same (subst (λ s. IsSound s row.form) (eqb-true row.service service parts.0) sound.0)
-      | inr other ↦ sound_in rows service sub form sound.1 (rw other at e)
-    ]
-
-sound_row : (service sub : ℕ) (form : Form) → form_of service sub ≡ Some form → IsSound service form
-sound_row service sub form e = sound_in sub_functions service sub form all_sound e
 
 -- ---- a positive response
 
@@ -216,7 +197,7 @@ sub_case : (view : View) (extended : Bool) (service : ℕ) (rest : List ℕ) →
     Ordered view service (is_silent (service ∷ rest)) (conditions view extended (service ∷ rest)) (response view extended (service ∷ rest))
 sub_case view extended service [] other some on = rw (other, some, on) refl
 sub_case view extended service (sub ∷ rest) other some on =
-    rw (other, some, on, longer 1 (length (service ∷ sub ∷ rest)) (omega arith)) (form_case view service sub (nat_le 128 sub) (form_of service (sub % 128)) rest (λ form is. sound_row service (sub % 128) form is))
+    rw (other, some, on, longer 1 (length (service ∷ sub ∷ rest)) (omega arith)) (form_case view service sub (nat_le 128 sub) (form_of service (sub % 128)) rest (λ form is. row_of IsSound all_sound service (sub % 128) form is))
 
 ordered : (view : View) (extended : Bool) (service : ℕ) (rest : List ℕ) →
     Ordered view service (is_silent (service ∷ rest)) (conditions view extended (service ∷ rest)) (response view extended (service ∷ rest))

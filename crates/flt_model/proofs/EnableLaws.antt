@@ -9,7 +9,7 @@ use Rattle.flt_model.specs.Debounce.{Reported, Ticked}
 use Rattle.flt_model.specs.Session.{is_setting_off}
 use Rattle.flt_model.specs.Happening.{happenings, with_happening, own_report, reported_where, Readiness, cause_of, is_started, is_fulfilled, conditions, are_met, is_enabled}
 use Rattle.flt_model.specs.Answer.{answer_report}
-use Rattle.flt_model.specs.EnableLaws.{NamesFirstCause, CausesComeInOrder, DisabledEventsAreLeft, DisabledEventsGoOnWhereTheyStood, EventsWithoutNeedsAreEnabled, HasNoEnable, EventsAreEnabledAtFirst}
+use Rattle.flt_model.specs.EnableLaws.{NamesFirstCause, CausesComeInOrder, DisabledEventsAreLeft, DisabledEventsGoOnWhereTheyStood, DisabledEventsAreEndedAndCleared, EventsWithoutNeedsAreEnabled, HasNoEnable, EventsAreEnabledAtFirst}
 
 -- What is seen of an event.
 abbrev pub seen : Bool → Bool → Bool → Readiness
@@ -74,12 +74,17 @@ disabled_events_go_on life event past (ops.Report other report ∷ between) disa
 disabled_events_go_on life event past (ops.Tick ticks ∷ between) disabled =
     ap (λ h. with_happening h (happenings life event (between ++ past))) ((disabled_events_are_left life event (between ++ past) disabled.0).ticks ticks)
     ∙ disabled_events_go_on life event past between disabled.1
-disabled_events_go_on life event past (ops.Signal index value ∷ between) disabled = absurd disabled
-disabled_events_go_on life event past (ops.Cycle cycle ∷ between) disabled = absurd disabled
-disabled_events_go_on life event past (ops.Request tester bytes ∷ between) disabled = absurd disabled
-disabled_events_go_on life event past (ops.Show other ∷ between) disabled = absurd disabled
-disabled_events_go_on life event past (ops.Snapshot ∷ between) disabled = absurd disabled
-disabled_events_go_on life event past (ops.Saved generation ∷ between) disabled = absurd disabled
+disabled_events_go_on life event past (ops.Cycle cycle ∷ between) disabled =
+    ap (λ h. with_happening h (happenings life event (between ++ past))) disabled.0 ∙ disabled_events_go_on life event past between disabled.1
+disabled_events_go_on life event past (ops.Request tester bytes ∷ between) disabled =
+    ap (λ h. with_happening h (happenings life event (between ++ past))) disabled.0 ∙ disabled_events_go_on life event past between disabled.1
+disabled_events_go_on life event past (ops.Signal index value ∷ between) disabled = disabled_events_go_on life event past between disabled
+disabled_events_go_on life event past (ops.Show other ∷ between) disabled = disabled_events_go_on life event past between disabled
+disabled_events_go_on life event past (ops.Snapshot ∷ between) disabled = disabled_events_go_on life event past between disabled
+disabled_events_go_on life event past (ops.Saved generation ∷ between) disabled = disabled_events_go_on life event past between disabled
+
+pub disabled_events_are_ended_and_cleared : DisabledEventsAreEndedAndCleared
+disabled_events_are_ended_and_cleared life event past = record { cycles = λ cycle. refl; requests = λ tester bytes. refl }
 
 -- ---- an event that is enabled
 

@@ -1,4 +1,5 @@
 pub mod Common
+pub mod BytesLemmas
 pub mod StatusLaws
 pub mod CounterLaws
 pub mod CodeLaws
@@ -20,6 +21,7 @@ pub mod SavedFits
 pub mod RecentLaws
 pub mod FirstLaws
 pub mod SessionLaws
+pub mod HoldLaws
 pub mod EnableLaws
 pub mod ConditionLaws
 pub mod TickLaws

@@ -1,6 +1,7 @@
 -- What holds of enable conditions (this profile).
 use Rattle.std.specs.Prelude.{◌≡◌, ◌↔◌, ℕ, Bool, true, false, [], ◌∷◌, ◌++◌, None}
 use Rattle.flt_model.specs.Start.{Start, History, event_of}
+use Rattle.flt_model.specs.Request.{RequestBytes}
 use Rattle.flt_model.specs.Session.{is_setting_off}
 use Rattle.flt_model.specs.Happening.{happening_of, happenings, is_started, is_enabled}
 use Rattle.flt_model.specs.Answer.{answer}
@@ -37,13 +38,15 @@ pub record IsLeftByReportsAndTicks (life : Start) (event : ℕ) (past : History)
 abbrev pub DisabledEventsAreLeft : Type 0
 DisabledEventsAreLeft = (life : Start) (event : ℕ) (past : History) → is_enabled life event past ≡ false → IsLeftByReportsAndTicks life event past
 
--- The event is disabled during these calls, newest first: each is a report, ticks, or a call on a condition.
+-- What each of these calls, newest first, has to be: the event is disabled at a report and at ticks, a cycle is that of other
+-- events, and a request does not clear the event. All other calls may stand between.
 abbrev pub IsDisabledThrough : Start → ℕ → History → History → Type 0
 IsDisabledThrough life event past [] = Unit {0}
-IsDisabledThrough life event past (ops.Enable condition fulfilled ∷ between) = IsDisabledThrough life event past between
 IsDisabledThrough life event past (ops.Report other report ∷ between) = (is_enabled life event (between ++ past) ≡ false) × IsDisabledThrough life event past between
 IsDisabledThrough life event past (ops.Tick ticks ∷ between) = (is_enabled life event (between ++ past) ≡ false) × IsDisabledThrough life event past between
-IsDisabledThrough life event past (_ ∷ between) = ⊥
+IsDisabledThrough life event past (ops.Cycle cycle ∷ between) = (happening_of life event (between ++ past) (ops.Cycle cycle) ≡ None) × IsDisabledThrough life event past between
+IsDisabledThrough life event past (ops.Request tester bytes ∷ between) = (happening_of life event (between ++ past) (ops.Request tester bytes) ≡ None) × IsDisabledThrough life event past between
+IsDisabledThrough life event past (_ ∷ between) = IsDisabledThrough life event past between
 
 -- Such calls do not add to what happened to it, so its debouncing continues from the same state.
 abbrev pub DisabledEventsGoOnWhereTheyStood : Type 0
@@ -84,3 +87,14 @@ pub record IsAsWithoutConditions (life : Start) (past : History) : Type 0 where
 -- This holds if no event needs a condition.
 abbrev pub ConditionsThatNobodyNeeds : Type 0
 ConditionsThatNobodyNeeds = (life : Start) (past : History) → NeedsNothing life → IsAsWithoutConditions life past
+
+-- Whether conditions are fulfilled makes no difference to what a cycle and a request are for an event: a disabled event takes the
+-- end of its cycle and is cleared as any other.
+pub record EndsAndClearsAreLeft (life : Start) (event : ℕ) (past : History) : Type 0 where
+  pub cycles : (cycle : ℕ) → happening_of life event past (ops.Cycle cycle) ≡ happening_of life event (without_conditions past) (ops.Cycle cycle)
+  pub requests : (tester : ℕ) (bytes : RequestBytes) →
+      happening_of life event past (ops.Request tester bytes) ≡ happening_of life event (without_conditions past) (ops.Request tester bytes)
+
+-- This holds of all events after all calls.
+abbrev pub DisabledEventsAreEndedAndCleared : Type 0
+DisabledEventsAreEndedAndCleared = (life : Start) (event : ℕ) (past : History) → EndsAndClearsAreLeft life event past

@@ -21,10 +21,19 @@ RequestLeavesOtherTesters = (past : History) (tester other : ℕ) (bytes : Reque
 
 -- ---- which session a tester is in
 
--- An accepted request for a session: service 0x10 with this sub-function, whose bit 7 does not belong to it, and nothing after it.
+-- A request of this service with this sub-function, whose bit 7 does not belong to it, and what may follow it.
+abbrev pub spells : ℕ → ℕ → (List ℕ → Bool) → List ℕ → Bool
+spells service sub_function follows (first ∷ second ∷ rest) = (first == service) && (second % 128 == sub_function) && follows rest
+spells service sub_function follows _ = false
+
+-- Nothing follows.
+abbrev pub is_nothing : List ℕ → Bool
+is_nothing [] = true
+is_nothing _ = false
+
+-- An accepted request for a session: service 0x10 with this sub-function, and nothing after it.
 abbrev pub asks_session : ℕ → List ℕ → Bool
-asks_session sub_function (service ∷ second ∷ []) = (service == 0x10) && (second % 128 == sub_function)
-asks_session sub_function _ = false
+asks_session sub_function bytes = spells 0x10 sub_function is_nothing bytes
 
 -- A call is a request of the tester.
 abbrev pub is_from : ℕ → Op → Bool
@@ -62,6 +71,45 @@ pub record AskedForExtended (tester : ℕ) (past : History) : Type 0 where
 -- Exactly then it is in the extended session.
 abbrev pub ExtendedWhereAsked : Type 0
 ExtendedWhereAsked = (tester : ℕ) (past : History) → (is_extended tester past ≡ true) ↔ AskedForExtended tester past
+
+-- ---- whether a tester holds the DTC setting off
+
+-- The option bytes FF FF FF follow, or nothing.
+abbrev pub is_option : List ℕ → Bool
+is_option [] = true
+is_option (a ∷ b ∷ c ∷ []) = (a == 0xFF) && (b == 0xFF) && (c == 0xFF)
+is_option _ = false
+
+-- A request about the setting that is accepted in the extended session: service 0x85 with this sub-function, 0x01 for on or
+-- 0x02 for off, and the option bytes or nothing after it.
+abbrev pub asks_setting : ℕ → List ℕ → Bool
+asks_setting sub_function bytes = spells 0x85 sub_function is_option bytes
+
+-- A call is such a request of the tester.
+abbrev pub is_setting_request : ℕ → ℕ → Op → Bool
+is_setting_request sub_function tester (ops.Request other bytes) = (other == tester) && asks_setting sub_function bytes.items
+is_setting_request sub_function tester _ = false
+
+-- In these later calls the tester stays in the extended session, and does not ask for the setting on.
+abbrev pub KeepsOff : ℕ → History → History → Type 0
+KeepsOff tester before [] = Unit {0}
+KeepsOff tester before (op ∷ later) =
+    (is_extended tester (op ∷ later ++ before) ≡ true) × (is_setting_request 0x01 tester op ≡ false) × KeepsOff tester before later
+
+-- In the extended session the tester sent an accepted 85 02, and since then it never left that session and sent no accepted
+-- 85 01.
+pub record AskedForOff (tester : ℕ) (past : History) : Type 0 where
+  pub later : History
+  pub bytes : RequestBytes
+  pub earlier : History
+  pub is : past ≡ later ++ ops.Request tester bytes ∷ earlier
+  pub extended : is_extended tester earlier ≡ true
+  pub off : asks_setting 0x02 bytes.items ≡ true
+  pub keeps : KeepsOff tester (ops.Request tester bytes ∷ earlier) later
+
+-- Exactly then it holds the setting off.
+abbrev pub HeldWhereAsked : Type 0
+HeldWhereAsked = (tester : ℕ) (past : History) → (holds_off tester past ≡ true) ↔ AskedForOff tester past
 
 -- In the default session it holds nothing.
 abbrev pub DefaultHoldsNothing : Type 0

@@ -4,8 +4,8 @@ ghost use Rattle.flt_model.specs.StatusLaws.{ByteTellsBits, LitIsConfirmed, Indi
 ghost use Rattle.flt_model.specs.DebounceLaws.{DebouncingStaysInRange, DetectionCounterTellsThresholds, TicksQualifyOnce};
 ghost use Rattle.flt_model.specs.CodeLaws.{CodesComeInOrder, SilentWhereAsked};
 ghost use Rattle.flt_model.specs.CallLaws.{ClearOfAllLeavesFirstState, ReportIsAboutItsEvent, ClearIsAboutItsEvent, OthersAreLeftAlone, DisplacementLeavesOtherBits};
-ghost use Rattle.flt_model.specs.SessionLaws.{RequestLeavesOtherTesters, ExtendedWhereAsked, DefaultHoldsNothing};
-ghost use Rattle.flt_model.specs.EnableLaws.{CausesComeInOrder, DisabledEventsAreLeft, DisabledEventsGoOnWhereTheyStood, EventsWithoutNeedsAreEnabled, EventsAreEnabledAtFirst, ConditionsThatNobodyNeeds};
+ghost use Rattle.flt_model.specs.SessionLaws.{RequestLeavesOtherTesters, ExtendedWhereAsked, HeldWhereAsked, DefaultHoldsNothing};
+ghost use Rattle.flt_model.specs.EnableLaws.{CausesComeInOrder, DisabledEventsAreLeft, DisabledEventsGoOnWhereTheyStood, DisabledEventsAreEndedAndCleared, EventsWithoutNeedsAreEnabled, EventsAreEnabledAtFirst, ConditionsThatNobodyNeeds};
 ghost use Rattle.flt_model.specs.NoteLaws.{NotedIsNotCleared, FirstIsNotCleared, RecentIsOfLastFailure, RecentIsOfBase, FirstIsHolder};
 ghost use Rattle.flt_model.specs.Laws.{HoldersHaveEntries, RanksAreCompared, WorstIsUnique, EntriesStandAsAdded, FittingBaseHasRoom, EntriesKeepRoom, SavedStatesFit};
 
@@ -55,9 +55,11 @@ pub fn request_leaves_other_testers()
 {}
 
 /// A tester is in the extended session if and only if its last accepted session request was 10 03 and it was not silent for
-/// 500 ticks since. In the default session it holds nothing.
+/// 500 ticks since. It holds the DTC setting off if and only if it sent an accepted 85 02 in the extended session, and since then
+/// never left that session and sent no accepted 85 01. In the default session it holds nothing.
 pub fn sessions_are_asked_for()
     ensures extended { ExtendedWhereAsked }
+    ensures held { HeldWhereAsked }
     ensures default { DefaultHoldsNothing }
 {}
 
@@ -68,10 +70,11 @@ pub fn causes_come_in_order()
 {}
 
 /// While an event is disabled, reports and ticks have no effect on it; once it is enabled again, its debouncing continues from
-/// the same state.
+/// the same state. Cycles end for it, and clears reach it, as if it were enabled.
 pub fn disabled_events_stand_still()
     ensures left { DisabledEventsAreLeft }
     ensures goes_on { DisabledEventsGoOnWhereTheyStood }
+    ensures ends { DisabledEventsAreEndedAndCleared }
 {}
 
 /// An event that needs no condition is enabled, and so is every event as long as there is no call on a condition. If no event

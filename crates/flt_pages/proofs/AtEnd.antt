@@ -8,10 +8,10 @@ use Rattle.flt_code.specs.Word.{word_bytes, IsWord}
 use Rattle.flt_code.specs.declared.words.Word.TheVariants.{Head, Gate}
 use Rattle.flt_code.proofs.WordBytes.{word_of-word_bytes}
 use Rattle.flt_code.proofs.WordCode.{word_page, unsealed_blank}
-use Rattle.flt_sector.specs.Page.{is_blank}
+use Rattle.flt_sector_model.specs.Page.{is_blank}
 use Rattle.flt_flash.specs.Blocks.{byte_pages}
-use Rattle.flt_sector.specs.Log.{is_gate_of, item_by_gate, item_by_head, item_by_code, item_at}
-use Rattle.flt_sector.specs.declared.log.Item.TheVariants.{End, Torn, Kept}
+use Rattle.flt_sector_model.specs.Log.{is_gate_of, item_by_gate, item_by_head, item_by_code, item_at}
+use Rattle.flt_sector_model.specs.declared.log.Item.TheVariants.{End, Torn, Kept}
 use Rattle.flt_pages.proofs.BlankPages.{blank_from_test}
 
 module _ (used : ℕ) (numbers : List ℕ) (pages : List (List ℕ)) (page : ℕ) (below : page < used) where

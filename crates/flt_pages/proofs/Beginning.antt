@@ -9,7 +9,7 @@ use Rattle.flt_code.specs.Word.{word_bytes}
 use Rattle.flt_code.specs.declared.words.Word.TheVariants.{Start, Active}
 use Rattle.flt_code.proofs.WordCode.{word_code, unsealed_blank}
 use Rattle.flt_code.proofs.Unspoiled.{unspoiled_word}
-use Rattle.flt_sector.specs.Gates.{gates_of}
+use Rattle.flt_sector_model.specs.Gates.{gates_of}
 use Rattle.flt_pages.specs.Append.{TornCode, TornErase}
 use Rattle.flt_pages.specs.Blank.{AreBlank}
 use Rattle.flt_pages.proofs.TornGates.{torn_gates}

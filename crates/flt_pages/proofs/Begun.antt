@@ -10,7 +10,7 @@ use Rattle.flt_code.specs.Word.{word_bytes}
 use Rattle.flt_code.specs.declared.words.Word.{Word}
 use Rattle.flt_code.specs.declared.words.Word.TheVariants.{Start, Active}
 use Rattle.flt_pages.specs.Blank.{AreBlank}
-use Rattle.flt_sector.specs.Gates.{gate_by_code, gate_by, started_by, activated_by, both_gates, gates_of}
+use Rattle.flt_sector_model.specs.Gates.{gate_by_code, gate_by, started_by, activated_by, both_gates, gates_of}
 use Rattle.flt_pages.specs.LogHolds.{LogHolds}
 use Rattle.flt_pages.proofs.WordPages.{gate_says}
 use Rattle.flt_pages.proofs.LogOn.{ended}

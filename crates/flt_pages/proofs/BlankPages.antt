@@ -4,8 +4,8 @@ use Rattle.std.specs.Prelude.{if◌then◌else◌}
 use Rattle.std.proofs.lemmas.Bool.{cases_eq}
 use Rattle.std.proofs.lemmas.Slice.Eq.{bytes_eq-Decides}
 use Rattle.flt_flash.specs.Image.{blank_page}
-use Rattle.flt_sector.specs.Page.{is_blank}
-use Rattle.flt_sector.specs.Log.{first_written}
+use Rattle.flt_sector_model.specs.Page.{is_blank}
+use Rattle.flt_sector_model.specs.Log.{first_written}
 use Rattle.flt_pages.specs.Blank.{AreBlank}
 
 module _ (pages : List (List ℕ)) (used page : ℕ) (within : page < used) (bytes : List ℕ) (is : bytes ≡ get_or pages page []) where

@@ -23,7 +23,7 @@ use Rattle.flt_pages.proofs.LogAppended.{whole_record}
 use Rattle.flt_pages.proofs.PageBytes.{bytes_size}
 use Rattle.flt_pages.proofs.Finding.{found_pages, length_most}
 use Rattle.flt_pages.specs.Switch.{KeepsGates, CopiesBlock, Replaces}
-use Rattle.flt_sector.proofs.Items.{is_among}
+use Rattle.flt_sector_model.proofs.Items.{is_among}
 
 pub same_kept : (pages : List (List ℕ)) → KeepsGates pages pages
 same_kept pages = record { size = refl; before = λ k lt. refl; behind = λ k le. refl }

@@ -12,8 +12,8 @@ use Rattle.flt_flash.specs.Blocks.{pages_of}
 use Rattle.flt_flash.specs.State.{FlashState, HasShape}
 use Rattle.flt_flash.specs.declared.flash.FlashFailed.{FlashFailed}
 use Rattle.flt_flash.proofs.Following.{no_run}
-use Rattle.flt_sector.specs.Log.{log}
-use Rattle.flt_sector.specs.Blocks.{content_of}
+use Rattle.flt_sector_model.specs.Log.{log}
+use Rattle.flt_sector_model.specs.Blocks.{content_of}
 use Rattle.flt_pages.specs.Blank.{AreBlank}
 use Rattle.flt_pages.specs.LogHolds.{LogHolds, given}
 use Rattle.flt_pages.specs.Live.{held_in, current_pages}

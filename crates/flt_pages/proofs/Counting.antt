@@ -6,10 +6,10 @@ use Rattle.std.proofs.lemmas.Bool.{eqb-true}
 use Rattle.std.proofs.lemmas.List.Sums.{sum_by-cons}
 use Rattle.flt_flash.specs.Content.{invalid, bytes}
 use Rattle.flt_flash.specs.Blocks.{byte_pages, record_pages, pages_of}
-use Rattle.flt_sector.specs.Log.{Entry, LogFrom, item_at, log_after, log_from, log}
-use Rattle.flt_sector.specs.Blocks.{or_earlier, last_complete, bytes_behind, content_of}
-use Rattle.flt_sector.specs.declared.log.Item.{Item}
-use Rattle.flt_sector.specs.declared.log.Item.TheVariants.{End, Torn, Kept}
+use Rattle.flt_sector_model.specs.Log.{Entry, LogFrom, item_at, log_after, log_from, log}
+use Rattle.flt_sector_model.specs.Blocks.{or_earlier, last_complete, bytes_behind, content_of}
+use Rattle.flt_sector_model.specs.declared.log.Item.{Item}
+use Rattle.flt_sector_model.specs.declared.log.Item.TheVariants.{End, Torn, Kept}
 use Rattle.flt_pages.proofs.ItemPages.{item_within}
 use Rattle.flt_pages.specs.Live.{held_in, current_pages}
 use Rattle.flt_pages.proofs.LogOn.{end_most}

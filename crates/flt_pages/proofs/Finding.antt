@@ -5,14 +5,14 @@ use Rattle.std.proofs.lemmas.Bool.{eqb-true, leb-true}
 use Rattle.flt_flash.specs.Image.{ArePages}
 use Rattle.flt_flash.specs.Blocks.{byte_pages, record_pages, pages_of}
 use Rattle.flt_code.specs.Word.{is_length}
-use Rattle.flt_sector.specs.Log.{Entry, LogFrom, item_at, log}
-use Rattle.flt_sector.specs.Blocks.{content_of, or_earlier, last_complete}
-use Rattle.flt_sector.specs.declared.log.Item.TheVariants.{End, Torn, Kept}
+use Rattle.flt_sector_model.specs.Log.{Entry, LogFrom, item_at, log}
+use Rattle.flt_sector_model.specs.Blocks.{content_of, or_earlier, last_complete}
+use Rattle.flt_sector_model.specs.declared.log.Item.TheVariants.{End, Torn, Kept}
 use Rattle.flt_pages.specs.Told.{told}
 use Rattle.flt_pages.specs.declared.place.RecordPlace.{RecordPlace}
 use Rattle.flt_pages.specs.Live.{held_in}
 use Rattle.flt_pages.specs.RecordPlace.{record_at, record_found, IsPlaceWithin, IsInLog, IsAt, content_at, pages_found}
-use Rattle.flt_sector.proofs.Logged.{log_on, log_step}
+use Rattle.flt_sector_model.proofs.Logged.{log_on, log_step}
 use Rattle.flt_pages.proofs.ItemPages.{item_within}
 use Rattle.flt_pages.proofs.Proper.{proper_item}
 use Rattle.flt_pages.proofs.PageBytes.{content_pages}

@@ -5,9 +5,9 @@ use Rattle.std.specs.Str.{bytes_eq}
 use Rattle.std.proofs.lemmas.Bool.{ne_eqb}
 use Rattle.flt_flash.specs.Image.{blank_page}
 use Rattle.flt_code.specs.Seal.{unsealed}
-use Rattle.flt_sector.specs.Page.{is_blank}
-use Rattle.flt_sector.specs.Log.{item_at, item_by_code}
-use Rattle.flt_sector.specs.declared.log.Item.TheVariants.{End}
+use Rattle.flt_sector_model.specs.Page.{is_blank}
+use Rattle.flt_sector_model.specs.Log.{item_at, item_by_code}
+use Rattle.flt_sector_model.specs.declared.log.Item.TheVariants.{End}
 
 pub item_by : (used : ℕ) (numbers : List ℕ) (pages : List (List ℕ)) (page : ℕ) (bytes : List ℕ) (blank : Bool) → page < used → get_or pages page [] ≡ bytes → blank ≡ bytes_eq bytes blank_page
     → item_at used numbers pages page ≡ (if blank then Ok End else item_by_code used numbers pages page (unsealed bytes))

@@ -7,11 +7,11 @@ use Rattle.flt_code.specs.Seal.{unsealed}
 use Rattle.flt_code.specs.Word.{word_of}
 use Rattle.flt_code.specs.declared.words.Word.{Word}
 use Rattle.flt_code.specs.declared.words.Word.TheVariants.{Start, Active, Head, Gate}
-use Rattle.flt_sector.specs.Page.{is_blank}
+use Rattle.flt_sector_model.specs.Page.{is_blank}
 use Rattle.flt_flash.specs.Blocks.{byte_pages}
-use Rattle.flt_sector.specs.Log.{Entry, is_gate_of, item_by_gate, item_by_head, item_by_code, item_at}
-use Rattle.flt_sector.specs.declared.log.Item.{Item}
-use Rattle.flt_sector.specs.declared.log.Item.TheVariants.{End, Torn, Kept}
+use Rattle.flt_sector_model.specs.Log.{Entry, is_gate_of, item_by_gate, item_by_head, item_by_code, item_at}
+use Rattle.flt_sector_model.specs.declared.log.Item.{Item}
+use Rattle.flt_sector_model.specs.declared.log.Item.TheVariants.{End, Torn, Kept}
 
 -- The pages that an item takes.
 abbrev pub item_pages : Item → ℕ

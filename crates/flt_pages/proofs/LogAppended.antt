@@ -6,14 +6,14 @@ use Rattle.std.proofs.lemmas.Bool.{cases_eq}
 use Rattle.flt_flash.specs.Content.{Content, invalid, bytes}
 use Rattle.flt_code.specs.Word.{IsWord}
 use Rattle.flt_code.specs.declared.words.Word.TheVariants.{Head, Gate}
-use Rattle.flt_sector.specs.Page.{is_blank}
+use Rattle.flt_sector_model.specs.Page.{is_blank}
 use Rattle.flt_pages.specs.Blank.{AreBlank}
 use Rattle.flt_flash.specs.Blocks.{byte_pages}
-use Rattle.flt_sector.specs.Log.{Entry}
-use Rattle.flt_sector.specs.Blocks.{content_of, last_complete}
+use Rattle.flt_sector_model.specs.Log.{Entry}
+use Rattle.flt_sector_model.specs.Blocks.{content_of, last_complete}
 use Rattle.flt_pages.specs.Record.{KeptApart, IsTornAtHead, IsOpen, IsWhole, RecordLeft}
 use Rattle.flt_pages.specs.LogHolds.{LogHolds, asked_of, given}
-use Rattle.flt_sector.specs.declared.log.Item.TheVariants.{Torn, Kept}
+use Rattle.flt_sector_model.specs.declared.log.Item.TheVariants.{Torn, Kept}
 use Rattle.flt_pages.proofs.BlankPages.{blank_from_test}
 use Rattle.flt_pages.proofs.LogOn.{log_same, log_more, end_least, blank_behind, all_below}
 use Rattle.flt_pages.proofs.AtEnd.{torn_item, open_item, whole_item}

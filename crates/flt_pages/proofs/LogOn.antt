@@ -3,12 +3,12 @@ use Rattle.std.proofs.Common.{◌≡◌, ◌≢◌, ◌+◌, ◌-◌, ◌<◌, �
 use Rattle.std.specs.Prelude.{if◌then◌else◌}
 use Rattle.std.proofs.lemmas.Bool.{cases_eq, eq-eqb, ne_eqb}
 use Rattle.flt_code.specs.Seal.{unsealed}
-use Rattle.flt_sector.specs.Page.{is_blank}
+use Rattle.flt_sector_model.specs.Page.{is_blank}
 use Rattle.flt_pages.specs.Blank.{AreBlank}
 use Rattle.flt_flash.specs.Blocks.{byte_pages}
-use Rattle.flt_sector.specs.Log.{item_by_code, Entry, LogFrom, item_at, first_written, with_entry, log_after, log_from, log}
-use Rattle.flt_sector.specs.declared.log.Item.{Item}
-use Rattle.flt_sector.specs.declared.log.Item.TheVariants.{End, Torn, Kept}
+use Rattle.flt_sector_model.specs.Log.{item_by_code, Entry, LogFrom, item_at, first_written, with_entry, log_after, log_from, log}
+use Rattle.flt_sector_model.specs.declared.log.Item.{Item}
+use Rattle.flt_sector_model.specs.declared.log.Item.TheVariants.{End, Torn, Kept}
 use Rattle.flt_pages.proofs.ItemPages.{item_pages, entry_of, same_item, item_within, AllBelow}
 use Rattle.flt_pages.proofs.BlankPages.{none_written, all_blank, is_blank-blank}
 

@@ -9,8 +9,8 @@ use Rattle.flt_flash.specs.Image.{ArePages}
 use Rattle.flt_flash.specs.Blocks.{byte_pages, record_pages, pages_of}
 use Rattle.flt_flash.specs.Content.{invalid, bytes}
 use Rattle.flt_code.specs.Word.{is_length}
-use Rattle.flt_sector.specs.Log.{Entry}
-use Rattle.flt_sector.specs.Blocks.{bytes_behind, content_of}
+use Rattle.flt_sector_model.specs.Log.{Entry}
+use Rattle.flt_sector_model.specs.Blocks.{bytes_behind, content_of}
 
 -- The bytes of pages, one after the other.
 abbrev pub flat : List (List ℕ) → List ℕ

@@ -2,8 +2,8 @@
 use Rattle.std.proofs.Common.{◌≡◌, ⊎_elim, inl, inr, ℕ, ◌<◌, ◌≤◌, ◌≢◌, List, Option, Some, Result, Ok, Err, sym, ◌∙◌, ap, subst, arith}
 use Rattle.std.proofs.lemmas.Bool.Decides.{nat_tests}
 use Rattle.flt_flash.specs.Image.{sector_at}
-use Rattle.flt_sector.specs.Gates.{gates_of}
-use Rattle.flt_sector.specs.Blocks.{current, current_by, greater_of}
+use Rattle.flt_sector_model.specs.Gates.{gates_of}
+use Rattle.flt_sector_model.specs.Blocks.{current, current_by, greater_of}
 use Rattle.flt_pages.specs.declared.fault.PageFault.{PageFault}
 use Rattle.flt_pages.specs.declared.fault.PageFault.TheVariants.{Flash, Damaged}
 use Rattle.flt_pages.specs.Told.{told, TellsOrFails, told_current}

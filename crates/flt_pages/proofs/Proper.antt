@@ -9,9 +9,9 @@ use Rattle.flt_code.specs.Seal.{unsealed}
 use Rattle.flt_code.specs.Word.{is_length, word_bytes, candidate, checked, word_of}
 use Rattle.flt_code.specs.declared.words.Word.{Word}
 use Rattle.flt_code.specs.declared.words.Word.TheVariants.{Start, Active, Head, Gate}
-use Rattle.flt_sector.specs.Page.{is_blank}
-use Rattle.flt_sector.specs.Log.{is_gate_of, item_by_gate, item_by_head, item_by_code, item_at}
-use Rattle.flt_sector.specs.declared.log.Item.TheVariants.{End, Kept}
+use Rattle.flt_sector_model.specs.Page.{is_blank}
+use Rattle.flt_sector_model.specs.Log.{is_gate_of, item_by_gate, item_by_head, item_by_code, item_at}
+use Rattle.flt_sector_model.specs.declared.log.Item.TheVariants.{End, Kept}
 
 checked_is : (found : Option Word) (bytes : List ℕ) (word : Word) → checked found bytes ≡ Some word → found ≡ Some word
 checked_is None bytes word is = absurd (cc is)

@@ -5,10 +5,10 @@ use Rattle.std.specs.List.{flat_map}
 use Rattle.std.proofs.lemmas.List.{length-take}
 use Rattle.flt_flash.specs.Content.{invalid, bytes, IsShort}
 use Rattle.flt_flash.specs.Blocks.{byte_pages}
-use Rattle.flt_sector.specs.declared.log.Item.{Item}
-use Rattle.flt_sector.specs.declared.log.Item.TheVariants.{End, Torn, Kept}
-use Rattle.flt_sector.specs.Log.{Entry, LogFrom, item_at, log_after, log_from}
-use Rattle.flt_sector.specs.Blocks.{Current, current, bytes_behind, or_earlier, last_complete, content_of, pages_by, value_by, block_value}
+use Rattle.flt_sector_model.specs.declared.log.Item.{Item}
+use Rattle.flt_sector_model.specs.declared.log.Item.TheVariants.{End, Torn, Kept}
+use Rattle.flt_sector_model.specs.Log.{Entry, LogFrom, item_at, log_after, log_from}
+use Rattle.flt_sector_model.specs.Blocks.{Current, current, bytes_behind, or_earlier, last_complete, content_of, pages_by, value_by, block_value}
 use Rattle.flt_pages.proofs.Finding.{length_most}
 use Rattle.flt_pages.proofs.Proper.{proper_item}
 

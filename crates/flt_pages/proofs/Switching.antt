@@ -10,9 +10,9 @@ use Rattle.flt_flash.specs.declared.flash.FlashFailed.{FlashFailed}
 use Rattle.flt_code.specs.Seal.{sealed}
 use Rattle.flt_code.specs.Word.{word_bytes}
 use Rattle.flt_code.specs.declared.words.Word.TheVariants.{Start, Active}
-use Rattle.flt_sector.specs.Gates.{gates_of}
-use Rattle.flt_sector.specs.Log.{log}
-use Rattle.flt_sector.specs.Blocks.{Current, current, current_by}
+use Rattle.flt_sector_model.specs.Gates.{gates_of}
+use Rattle.flt_sector_model.specs.Log.{log}
+use Rattle.flt_sector_model.specs.Blocks.{Current, current, current_by}
 use Rattle.flt_pages.specs.Append.{TornCode, TornErase, Appends}
 use Rattle.flt_pages.specs.Blank.{AreBlank}
 use Rattle.flt_pages.specs.LogHolds.{LogHolds, StandsAt}

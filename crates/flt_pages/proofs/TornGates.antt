@@ -8,8 +8,8 @@ use Rattle.flt_code.specs.Seal.{unsealed}
 use Rattle.flt_code.specs.Spoiled.{is_spoiled}
 use Rattle.flt_code.specs.declared.words.Word.{Word}
 use Rattle.flt_code.proofs.Unspoiled.{erased_or_none, erased_unspoiled}
-use Rattle.flt_sector.specs.Gates.{gate_by_code, gate_by, started_by, activated_by, both_gates, gates_of}
-use Rattle.flt_sector.specs.Blocks.{Current, current_by}
+use Rattle.flt_sector_model.specs.Gates.{gate_by_code, gate_by, started_by, activated_by, both_gates, gates_of}
+use Rattle.flt_sector_model.specs.Blocks.{Current, current_by}
 
 module _ (says : Option Word → Result (Option ℕ) ℕ) (fault : ℕ) (page torn : List ℕ) (tears : IsTornPage page blank_page torn) where
   not_spoiled : (number : Option ℕ) → gate_by says fault page ≡ Ok number → is_spoiled page ≡ false

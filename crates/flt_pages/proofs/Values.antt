@@ -4,10 +4,10 @@ use Rattle.std.specs.Prelude.{if◌then◌else◌, ◌==◌, ◌&&◌, slice_ran
 use Rattle.std.specs.List.{flat_map}
 use Rattle.flt_flash.specs.Content.{invalid, bytes}
 use Rattle.flt_flash.specs.Blocks.{byte_pages}
-use Rattle.flt_sector.specs.Log.{Entry}
+use Rattle.flt_sector_model.specs.Log.{Entry}
 use Rattle.std.proofs.lemmas.List.{ext_get_or, get_or-take, get_or-drop}
 use Rattle.flt_pages.proofs.ItemPages.{AllBelow}
-use Rattle.flt_sector.specs.Blocks.{or_earlier, last_complete, bytes_behind, content_of}
+use Rattle.flt_sector_model.specs.Blocks.{or_earlier, last_complete, bytes_behind, content_of}
 
 -- A record of the block or of another after the others.
 pub last_more : (block : ℕ) (entries : List Entry) (entry : Entry) → last_complete block (entries ++ entry ∷ []) ≡ (if entry.complete && (entry.block == block) then Some entry else last_complete block entries)

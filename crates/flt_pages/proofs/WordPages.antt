@@ -14,10 +14,10 @@ use Rattle.flt_code.specs.declared.words.Word.TheVariants.{Start, Active, Head, 
 use Rattle.flt_code.proofs.Unspoiled.{unspoiled_word}
 use Rattle.flt_code.proofs.WordBytes.{word_of-word_bytes}
 use Rattle.flt_code.proofs.WordCode.{word_code, word_page, unsealed_blank}
-use Rattle.flt_sector.specs.declared.log.Item.TheVariants.{Kept}
-use Rattle.flt_sector.specs.Log.{item_at, item_by_code, item_by_head, item_by_gate, is_gate_of}
-use Rattle.flt_sector.specs.Gates.{gate_by, gate_by_code, both_gates, started_by, activated_by, gates_of}
-use Rattle.flt_sector.proofs.Items.{is_among}
+use Rattle.flt_sector_model.specs.declared.log.Item.TheVariants.{Kept}
+use Rattle.flt_sector_model.specs.Log.{item_at, item_by_code, item_by_head, item_by_gate, is_gate_of}
+use Rattle.flt_sector_model.specs.Gates.{gate_by, gate_by_code, both_gates, started_by, activated_by, gates_of}
+use Rattle.flt_sector_model.proofs.Items.{is_among}
 use Rattle.flt_pages.specs.Place.{IsPlace}
 use Rattle.flt_pages.proofs.ItemCases.{item_by}
 

@@ -1,9 +1,9 @@
 -- What an item is, by what its first page says and by the page in the place of its gate.
 use Rattle.std.specs.Prelude.{ℕ, ◌<◌, Bool, List, [], Option, Some, None, Result, Ok, Err, slice_index_or}
 use Rattle.flt_code.specs.Seal.{unsealed}
-use Rattle.flt_sector.specs.Log.{item_by_gate}
-use Rattle.flt_sector.specs.declared.log.Item.{Item}
-use Rattle.flt_sector.specs.declared.log.Item.TheVariants.{Kept}
+use Rattle.flt_sector_model.specs.Log.{item_by_gate}
+use Rattle.flt_sector_model.specs.declared.log.Item.{Item}
+use Rattle.flt_sector_model.specs.declared.log.Item.TheVariants.{Kept}
 use Rattle.flt_pages.specs.declared.items.Begin.{Begin}
 use Rattle.flt_pages.specs.declared.items.Begin.TheVariants.{Whole, Damaged, Record}
 

@@ -2,8 +2,8 @@
 use Rattle.std.specs.Prelude.{ℕ, List, sum_by}
 use Rattle.flt_flash.specs.Content.{Content}
 use Rattle.flt_flash.specs.Blocks.{pages_of}
-use Rattle.flt_sector.specs.Log.{log}
-use Rattle.flt_sector.specs.Blocks.{content_of, last_complete}
+use Rattle.flt_sector_model.specs.Log.{log}
+use Rattle.flt_sector_model.specs.Blocks.{content_of, last_complete}
 
 -- What a block holds by the log of a sector.
 abbrev pub held_in : ℕ → List ℕ → List (List ℕ) → ℕ → Content

@@ -2,8 +2,8 @@
 use Rattle.std.specs.Prelude.{◌≡◌, ◌==◌, ℕ, Bool, List, Some, None, Ok, if◌then◌else◌}
 use Rattle.flt_flash.specs.Image.{sector_at}
 use Rattle.flt_flash.specs.Content.{Content, invalid, bytes}
-use Rattle.flt_sector.specs.Log.{Entry, log}
-use Rattle.flt_sector.specs.Blocks.{current, content_of, last_complete}
+use Rattle.flt_sector_model.specs.Log.{Entry, log}
+use Rattle.flt_sector_model.specs.Blocks.{current, content_of, last_complete}
 
 -- The log ends here without a fault, and its records give each block this value.
 pub record LogHolds (used : ℕ) (numbers : List ℕ) (pages : List (List ℕ)) (end : ℕ) (value : ℕ → Content) : Type 0 where

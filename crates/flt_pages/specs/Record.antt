@@ -5,7 +5,7 @@ use Rattle.flt_code.specs.Seal.{sealed, unsealed}
 use Rattle.flt_code.specs.Word.{word_bytes}
 use Rattle.flt_code.specs.declared.words.Word.TheVariants.{Head, Gate}
 use Rattle.flt_flash.specs.Blocks.{byte_pages}
-use Rattle.flt_sector.specs.Blocks.{bytes_behind}
+use Rattle.flt_sector_model.specs.Blocks.{bytes_behind}
 
 -- Bytes as they are on whole pages, the last of which is padded with ones.
 abbrev pub on_pages : List ℕ → List ℕ

@@ -3,8 +3,8 @@ use Rattle.std.specs.Prelude.{◌≡◌, ◌+◌, ◌<◌, ◌≤◌, ℕ, true,
 use Rattle.flt_flash.specs.Content.{Content, missing}
 use Rattle.flt_flash.specs.Blocks.{record_pages}
 use Rattle.flt_code.specs.Word.{is_length}
-use Rattle.flt_sector.specs.Log.{Entry}
-use Rattle.flt_sector.specs.Blocks.{bytes_behind}
+use Rattle.flt_sector_model.specs.Log.{Entry}
+use Rattle.flt_sector_model.specs.Blocks.{bytes_behind}
 use Rattle.flt_pages.specs.LogHolds.{asked_of}
 use Rattle.flt_pages.specs.declared.place.RecordPlace.{RecordPlace}
 

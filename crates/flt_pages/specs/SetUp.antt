@@ -2,7 +2,7 @@
 use Rattle.std.specs.Prelude.{◌≡◌, ◌⊎◌, ℕ, List, Some, None, Ok}
 use Rattle.flt_flash.specs.Image.{sector_at}
 use Rattle.flt_pages.specs.Blank.{AreBlank}
-use Rattle.flt_sector.specs.Blocks.{current}
+use Rattle.flt_sector_model.specs.Blocks.{current}
 
 -- The first sector is the current one with the number 1, and its log is empty.
 pub record IsFresh (used : ℕ) (image : List (List (List ℕ))) : Type 0 where

@@ -2,7 +2,7 @@
 use Rattle.std.specs.Prelude.{◌≡◌, ◌⊎◌, ℕ, Option, Some, None, Result, Ok, Err}
 use Rattle.flt_flash.specs.declared.blocks.BlockFault.{BlockFault}
 use Rattle.flt_flash.specs.declared.blocks.BlockFault.TheVariants as blocks
-use Rattle.flt_sector.specs.Blocks.{Current}
+use Rattle.flt_sector_model.specs.Blocks.{Current}
 use Rattle.flt_pages.specs.declared.fault.PageFault.{PageFault}
 use Rattle.flt_pages.specs.declared.fault.PageFault.TheVariants.{Flash, Damaged}
 use Rattle.flt_pages.specs.declared.sectors.CurrentSector.{CurrentSector}

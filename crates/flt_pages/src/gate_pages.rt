@@ -2,7 +2,7 @@
 ghost use Rattle.std.specs.Prelude.{◌≡◌, ◌+◌, ◌<◌, ◌≤◌, Ok, IsErrOf};
 ghost use Rattle.flt_flash.specs.Image.{sector_at};
 ghost use Rattle.flt_flash.specs.State.{OnlyReads, HasRisenBy};
-ghost use Rattle.flt_sector.specs.Gates.{gate_by, started_by, activated_by, both_gates, gates_of};
+ghost use Rattle.flt_sector_model.specs.Gates.{gate_by, started_by, activated_by, both_gates, gates_of};
 ghost use Rattle.flt_pages.specs.Told.{told, TellsOrFails};
 
 use crate::PageFault;

@@ -4,7 +4,7 @@ ghost use Rattle.flt_flash.specs.Image.{page_at, sector_at};
 ghost use Rattle.flt_flash.specs.State.{OnlyReads, HasRisenBy};
 ghost use Rattle.flt_flash.specs.Blocks.{byte_pages};
 ghost use Rattle.flt_code.specs.Seal.{unsealed};
-ghost use Rattle.flt_sector.specs.Log.{item_at, item_by_gate, item_by_head, first_written};
+ghost use Rattle.flt_sector_model.specs.Log.{item_at, item_by_gate, item_by_head, first_written};
 ghost use Rattle.flt_pages.specs.First.{item_begun, GateBelow, item_completed};
 ghost use Rattle.flt_pages.specs.Told.{told, told_fault, TellsOrFails};
 
@@ -12,7 +12,7 @@ use crate::PageFault;
 use crate::numbers::Numbers;
 use flt_code::{Word, get_word, unseal};
 use flt_flash::{BLANK_PAGE, Flash, FlashFailed};
-use flt_sector::Item;
+use flt_sector_model::Item;
 
 /// An item as far as its first page determines it.
 #[derive(Clone, Copy)]

@@ -4,9 +4,9 @@ ghost use Rattle.flt_flash.specs.Blocks.{byte_pages};
 ghost use Rattle.flt_code.specs.Seal.{sealed};
 ghost use Rattle.flt_code.specs.Word.{word_bytes};
 ghost use Rattle.flt_code.specs.declared.words.Word.TheVariants.{Start, Active, Head, Gate};
-ghost use Rattle.flt_sector.specs.declared.log.Item.TheVariants.{Kept};
-ghost use Rattle.flt_sector.specs.Log.{item_at};
-ghost use Rattle.flt_sector.specs.Gates.{gates_of};
+ghost use Rattle.flt_sector_model.specs.declared.log.Item.TheVariants.{Kept};
+ghost use Rattle.flt_sector_model.specs.Log.{item_at};
+ghost use Rattle.flt_sector_model.specs.Gates.{gates_of};
 ghost use Rattle.flt_pages.specs.Place.{IsPlace};
 
 /// The law of appending: what the appends program is read back as what it is. A head makes a record that is not complete, its

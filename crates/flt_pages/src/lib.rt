@@ -1,6 +1,6 @@
 //! The pages of a flash of two sectors: gates, the items of a log, records, and the two sectors; looks at them, and programs of them.
 //!
-//! It stands on `flt_flash`, `flt_code` and the definitions of `flt_sector`, and keeps nothing from call to call: the driver above
+//! It stands on `flt_flash`, `flt_code` and the definitions of `flt_sector_model`, and keeps nothing from call to call: the driver above
 //! uses its calls over any flash. `gates`, `item`, `blank_from`, `find_places` and `current_sector` report exactly what the definitions
 //! say of the image (`specs/Told.antt`). `begin`, the appends of pages and `activate` leave the page that was asked for or, after a
 //! failure, a tearing of it (`specs/Append.antt`, to be read first), and `append_record` leaves the record whole or, after a failure,
@@ -23,7 +23,7 @@ mod sectors;
 pub use append::{activate, append_gate, append_head, append_piece, begin, fill_up};
 pub use bytes::{copy_record, read_record};
 pub use fault::PageFault;
-pub use flt_sector::Item;
+pub use flt_sector_model::Item;
 pub use gate_pages::gates;
 pub use items::{blank_from, byte_pages, item};
 pub use law::appending;

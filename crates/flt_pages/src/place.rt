@@ -3,7 +3,7 @@ ghost use Rattle.std.specs.Prelude.{◌≡◌, ◌≢◌, ◌<◌, ◌≤◌, �
 ghost use Rattle.std.specs.List.{AllPairs};
 ghost use Rattle.flt_flash.specs.Image.{sector_at};
 ghost use Rattle.flt_flash.specs.State.{OnlyReads, HasRisenBy};
-ghost use Rattle.flt_sector.specs.Log.{log};
+ghost use Rattle.flt_sector_model.specs.Log.{log};
 ghost use Rattle.flt_pages.specs.Told.{TellsOrFails, told_end};
 ghost use Rattle.flt_pages.specs.Live.{held_in};
 ghost use Rattle.flt_pages.specs.RecordPlace.{IsPlaceOf, TellsPlaces};
@@ -12,7 +12,7 @@ use crate::PageFault;
 use crate::items::{blank_from, byte_pages, item};
 use crate::numbers::Numbers;
 use flt_flash::Flash;
-use flt_sector::Item;
+use flt_sector_model::Item;
 
 /// Where a complete record is, and what its head says of it.
 #[derive(Clone, Copy, Debug, PartialEq, Eq)]

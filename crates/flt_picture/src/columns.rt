@@ -2,7 +2,7 @@
 ghost use Rattle.std.specs.Prelude.{◌<◌, ◌≤◌};
 
 use crate::layout::{PLOT, PLOT_X};
-use flt_life::{Boot, Life};
+use flt_life_model::{Boot, Life};
 use std::alloc::{AllocError, Global};
 
 /// The columns that the calls of all lives get, about; each life has one more for its power-up.

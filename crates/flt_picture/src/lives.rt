@@ -12,7 +12,7 @@ use crate::replay::{Machine, replay};
 use crate::svg::{Area, Svg, path_in};
 use flt_config::ValidConfig;
 use flt_did::{DID_ROWS, DidTable};
-use flt_life::{Boot, Entry, Life};
+use flt_life_model::{Boot, Entry, Life};
 use flt_model::Op;
 use flt_report::put_boot;
 use flt_restore::StartFault;

@@ -9,12 +9,12 @@ use crate::layout::{
 use crate::svg::{Area, Svg, put_outline};
 use flt_config::ValidConfig;
 use flt_flash::{BLANK_PAGE, Flash, FlashMem};
-use flt_generation::{
+use flt_image::{get_commit, part_of};
+use flt_pages::current_sector;
+use flt_store_model::{
     COMMIT_ID, COMMIT_LENGTH, END_PART, FIRST_APPLICATION, FIRST_PART, MARK_ID, NUMBERS_PER_BLOCK,
     Part,
 };
-use flt_image::{get_commit, part_of};
-use flt_pages::current_sector;
 use std::alloc::{AllocError, Global};
 use std::fmt::Write;
 

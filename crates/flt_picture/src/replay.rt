@@ -12,7 +12,7 @@ use flt_config::{Persist, ValidConfig, fits, initial};
 use flt_dcm::{ReplyKind, Unit};
 use flt_dem::Dem;
 use flt_did::{DID_ROWS, DidTable};
-use flt_life::{Boot, Entry, Life};
+use flt_life_model::{Boot, Entry, Life};
 use flt_model::{Op, RESPONSE, Shown};
 
 /// The status machine of a configuration.

@@ -1,7 +1,7 @@
 -- A line of which the first part stands, and the rest could not be put.
 use Rattle.std.proofs.Common.{◌≡◌, ℕ, List, ◌++◌, length, ap, sym, ◌∙◌}
 use Rattle.std.proofs.Math.Seq.{take-append_seam}
-use Rattle.flt_report.specs.Line.{GrowsByFront}
+use Rattle.flt_step.specs.Puts.{GrowsByFront}
 
 pub front_of_parts : (old middle new words rest : List ℕ) → middle ≡ old ++ words → new ≡ middle → GrowsByFront old new (words ++ rest)
 front_of_parts old middle new words rest first same =

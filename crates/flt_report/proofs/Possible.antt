@@ -6,16 +6,16 @@ use Rattle.std.proofs.lemmas.Bool.{and_parts, leb-true}
 use Rattle.std.proofs.lemmas.List.Elements.{All-nil, All-cons}
 use Rattle.std.proofs.lemmas.List.Sums.{sum_by-cons}
 use Rattle.flt_config.specs.declared.config.Config.{Config}
-use Rattle.flt_script.specs.Part.{PartOf, part_of, parts_of}
-use Rattle.flt_script.specs.Step.{is_step_in, is_lane_step, is_lane_in, is_part_in, are_parts_in, arms_of, arms_of_part, lanes_of, lanes_of_part, store_lanes}
-use Rattle.flt_script.specs.Step as script
-use Rattle.flt_script.specs.declared.step.Part.{Part}
-use Rattle.flt_script.specs.declared.step.Part.TheVariants.{One, Lanes}
-use Rattle.flt_script.specs.declared.step.Step.{Step}
-use Rattle.flt_script.specs.declared.step.Step.TheVariants as steps
-use Rattle.flt_life.specs.Actions.{action_of, arm_count}
-use Rattle.flt_life.proofs.PossibleSteps.{possible_step}
-use Rattle.flt_life.specs.Parts.{IsPossiblePart, IsPossibleInLane, arms_in, widths}
+use Rattle.flt_step.specs.Part.{PartOf, part_of, parts_of}
+use Rattle.flt_step.specs.Step.{is_step_in, is_lane_step, is_lane_in, is_part_in, are_parts_in, arms_of, arms_of_part, lanes_of, lanes_of_part, store_lanes}
+use Rattle.flt_step.specs.Step as script
+use Rattle.flt_step.specs.declared.step.Part.{Part}
+use Rattle.flt_step.specs.declared.step.Part.TheVariants.{One, Lanes}
+use Rattle.flt_step.specs.declared.step.Step.{Step}
+use Rattle.flt_step.specs.declared.step.Step.TheVariants as steps
+use Rattle.flt_life_model.specs.Actions.{action_of, arm_count}
+use Rattle.flt_life_model.proofs.PossibleSteps.{possible_step}
+use Rattle.flt_life_model.specs.Parts.{IsPossiblePart, IsPossibleInLane, arms_in, widths}
 
 possible_lane : (config : Config) (lane : List Step) → is_lane_in config lane ≡ true → All (IsPossibleInLane config) lane
 possible_lane config [] all = All-nil (IsPossibleInLane config)

@@ -11,12 +11,12 @@ use Rattle.std.specs.Io.KnownBytes.{Appends}
 use Rattle.flt_io.specs.Sink.{AppendsFront}
 use Rattle.flt_io.specs.Written.{Writes}
 use Rattle.flt_io.specs.declared.stream.StreamFault.{StreamFault}
-use Rattle.flt_script.specs.declared.step.Step.{Step}
-use Rattle.flt_life.specs.declared.replies.LaneReplies.{LaneReplies}
-use Rattle.flt_life.specs.Room.{told_in}
+use Rattle.flt_step.specs.declared.step.Step.{Step}
+use Rattle.flt_life_model.specs.declared.replies.LaneReplies.{LaneReplies}
+use Rattle.flt_life_model.specs.Room.{told_in}
 use Rattle.flt_report.specs.Left.{IsWritten}
-use Rattle.flt_life.specs.declared.answer.StepAnswer.{StepAnswer}
-use Rattle.flt_life.specs.Answers.{KeptReply, Told, with_reply, reply_in, told_by}
+use Rattle.flt_life_model.specs.declared.answer.StepAnswer.{StepAnswer}
+use Rattle.flt_life_model.specs.Answers.{KeptReply, Told, with_reply, reply_in, told_by}
 use Rattle.flt_report.specs.Answer.{step_line}
 use Rattle.flt_report.specs.Life.{lane_steps, lines_text, lane_text, lanes_text}
 

@@ -12,11 +12,10 @@ use Rattle.flt_queue.specs.declared.job.QueueReply.{QueueReply}
 use Rattle.flt_queue.specs.declared.job.QueueReply.TheVariants.{Accepted, BlockPending, QueueFull, Last}
 use Rattle.flt_store.specs.declared.fault.SaveFault.{SaveFault}
 use Rattle.flt_store.specs.declared.fault.SaveFault.TheVariants.{Flash, Spent, SequenceSpent}
-use Rattle.flt_script.specs.Bytes.{two_digits, bytes_text}
-use Rattle.flt_script.specs.Step.{step_text}
-use Rattle.flt_script.specs.declared.step.Step.{Step}
-use Rattle.flt_life.specs.declared.answer.StepAnswer.TheVariants.{Dem, Saved, SaveFailed, Queue, Drained, Bytes, NoBlock, BlockFlash, Armed, Dark}
-use Rattle.flt_life.specs.Answers.{Told}
+use Rattle.flt_step.specs.Words.{two_digits, bytes_text, step_text}
+use Rattle.flt_step.specs.declared.step.Step.{Step}
+use Rattle.flt_life_model.specs.declared.answer.StepAnswer.TheVariants.{Dem, Saved, SaveFailed, Queue, Drained, Bytes, NoBlock, BlockFlash, Armed, Dark}
+use Rattle.flt_life_model.specs.Answers.{Told}
 
 -- 0 or 1.
 abbrev pub flag_text : Bool → List ℕ

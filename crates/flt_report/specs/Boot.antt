@@ -1,15 +1,13 @@
--- The line that begins a life, and those that stand where no script was read.
+-- The line that begins a life.
 use Rattle.std.specs.Prelude.{ℕ, List, [], ◌∷◌, ◌++◌, codes}
 use Rattle.std.specs.Fmt.{decimal}
-use Rattle.flt_generation.specs.declared.mark.Mark.{Mark}
-use Rattle.flt_generation.specs.declared.place.Place.{Place}
-use Rattle.flt_generation.specs.declared.place.Place.TheVariants.{Page, Block}
+use Rattle.flt_store_model.specs.declared.mark.Mark.{Mark}
+use Rattle.flt_store_model.specs.declared.place.Place.{Place}
+use Rattle.flt_store_model.specs.declared.place.Place.TheVariants.{Page, Block}
 use Rattle.flt_restore.specs.declared.fault.StartFault.{StartFault}
 use Rattle.flt_restore.specs.declared.fault.StartFault.TheVariants.{Flash, Damaged, OtherConfig, SequenceSpent}
-use Rattle.flt_life.specs.declared.life.Boot.{Boot}
-use Rattle.flt_life.specs.declared.life.Boot.TheVariants.{Started, Dark, Refused}
-use Rattle.flt_script.specs.declared.fault.ScriptFault.{ScriptFault}
-use Rattle.flt_script.specs.Fault.{script_fault_text}
+use Rattle.flt_life_model.specs.declared.life.Boot.{Boot}
+use Rattle.flt_life_model.specs.declared.life.Boot.TheVariants.{Started, Dark, Refused}
 
 -- Where an image is damaged.
 abbrev pub place_text : Place → List ℕ
@@ -37,11 +35,3 @@ boot_text (Refused fault) = codes "refused " ++ refusal_text fault
 -- The line that begins the life of this number.
 abbrev pub boot_line : ℕ → Boot → List ℕ
 boot_line life boot = codes "life " ++ decimal life ++ 32 ∷ boot_text boot ++ 10 ∷ []
-
--- The line that tells why bytes are no script.
-abbrev pub script_fault_line : ScriptFault → List ℕ
-script_fault_line fault = script_fault_text fault ++ 10 ∷ []
-
--- The line that tells that the source of a script failed.
-abbrev pub unread_line : List ℕ
-unread_line = codes "read fault" ++ 10 ∷ []

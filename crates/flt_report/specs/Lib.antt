@@ -1,8 +1,6 @@
 pub mod Answer
 pub mod Block
 pub mod Boot
-pub mod Line
 pub mod Room
 pub mod Life
 pub mod Left
-pub mod Fetched

@@ -1,13 +1,13 @@
 -- The lines of a life: how it began, and its parts, as far as their steps were answered.
 use Rattle.std.specs.Prelude.{ℕ, ◌+◌, List, Vec, [], ◌∷◌, ◌++◌, drop, length, map}
 use Rattle.std.proofs.Common.{inl, inr}
-use Rattle.flt_script.specs.Part.{PartOf}
-use Rattle.flt_script.specs.declared.step.Step.{Step}
-use Rattle.flt_life.specs.declared.life.Boot.{Boot}
-use Rattle.flt_life.specs.declared.life.Boot.TheVariants.{Started, Dark, Refused}
-use Rattle.flt_life.specs.declared.replies.LaneReplies.{LaneReplies}
-use Rattle.flt_life.specs.Answers.{Told}
-use Rattle.flt_life.specs.Room.{told_in}
+use Rattle.flt_step.specs.Part.{PartOf}
+use Rattle.flt_step.specs.declared.step.Step.{Step}
+use Rattle.flt_life_model.specs.declared.life.Boot.{Boot}
+use Rattle.flt_life_model.specs.declared.life.Boot.TheVariants.{Started, Dark, Refused}
+use Rattle.flt_life_model.specs.declared.replies.LaneReplies.{LaneReplies}
+use Rattle.flt_life_model.specs.Answers.{Told}
+use Rattle.flt_life_model.specs.Room.{told_in}
 use Rattle.flt_report.specs.Answer.{step_line}
 use Rattle.flt_report.specs.Block.{par_line, lane_line, end_line}
 use Rattle.flt_report.specs.Boot.{boot_line}

@@ -2,9 +2,9 @@
 use Rattle.std.specs.Prelude.{ℕ, ◌*◌, List, length}
 use Rattle.flt_model.specs.Reply.{of_response}
 use Rattle.flt_model.specs.declared.call.ReplyOf.{ReplyOf}
-use Rattle.flt_life.specs.Answers.{KeptReply}
-use Rattle.flt_life.specs.declared.answer.StepAnswer.{StepAnswer}
-use Rattle.flt_life.specs.declared.answer.StepAnswer.TheVariants.{Dem}
+use Rattle.flt_life_model.specs.Answers.{KeptReply}
+use Rattle.flt_life_model.specs.declared.answer.StepAnswer.{StepAnswer}
+use Rattle.flt_life_model.specs.declared.answer.StepAnswer.TheVariants.{Dem}
 
 -- Three for each byte of a response, and 96 for the bytes of an application block, the longest of the others.
 abbrev pub reply_room : {B : Type 0} → ReplyOf B → List ℕ → ℕ

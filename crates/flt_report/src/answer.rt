@@ -2,16 +2,15 @@
 ghost use Rattle.std.specs.Prelude.{◌≡◌, ◌≤◌, ◌+◌, ◌++◌, ◌∷◌, [], OnOk, OnErr, length, vec_len};
 ghost use Rattle.std.specs.Vec.{vec_capacity};
 ghost use Rattle.flt_dcm.specs.ReplyKind.{reply_with};
-ghost use Rattle.flt_life.specs.Answers.{IsReplyWithin, IsAnswerWithin, reply_in, with_reply};
-ghost use Rattle.flt_report.specs.Line.{Puts};
+ghost use Rattle.flt_life_model.specs.Answers.{IsReplyWithin, IsAnswerWithin, reply_in, with_reply};
+ghost use Rattle.flt_step.specs.Puts.{Puts};
 ghost use Rattle.flt_report.specs.Room.{reply_room, kept_room, answer_room};
-ghost use Rattle.flt_report.specs.Answer.{flag_text, shown_text, ignored_text, reply_text, save_fault_text};
-ghost use Rattle.flt_report.specs.Answer.{last_text, queue_text, drained_text, answer_text, answer_part};
+ghost use Rattle.flt_report.specs.Answer.{flag_text, shown_text, ignored_text, reply_text, save_fault_text, last_text, queue_text, drained_text, answer_text, answer_part};
 
-use crate::digits::{put_byte, put_bytes, put_number, put_signed, put_text};
-use flt_life::{Answer, KeptReply, StepAnswer};
+use flt_life_model::{Answer, KeptReply, StepAnswer};
 use flt_model::{Cause, ReplyOf, Shown};
 use flt_queue::{LastResult, QueueReply};
+use flt_step::{put_byte, put_bytes, put_number, put_signed, put_text};
 use flt_store::SaveFault;
 use std::alloc::AllocError;
 

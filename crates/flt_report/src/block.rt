@@ -3,7 +3,7 @@ ghost use Rattle.std.specs.Prelude.{◌≡◌, ◌<◌, ◌+◌, ◌++◌, OnOk,
 ghost use Rattle.std.specs.Vec.{vec_capacity};
 ghost use Rattle.flt_report.specs.Block.{par_line, lane_line, end_line};
 
-use crate::digits::{put_number, put_text};
+use flt_step::{put_number, put_text};
 use std::alloc::AllocError;
 
 /// At most so many bytes has a line of a block that is no step.

@@ -3,12 +3,12 @@ ghost use Rattle.std.specs.Prelude.{◌≡◌, ◌≢◌, ◌≤◌, ◌<◌, �
 ghost use Rattle.std.specs.Vec.{vec_capacity};
 ghost use Rattle.flt_restore.specs.declared.fault.StartFault.TheVariants as faults;
 ghost use Rattle.flt_report.specs.Boot.{place_text, mark_text, refusal_text, boot_text, boot_line};
-ghost use Rattle.flt_report.specs.Line.{Puts};
+ghost use Rattle.flt_step.specs.Puts.{Puts};
 
-use crate::digits::{put_number, put_text};
-use flt_generation::{Mark, Place};
-use flt_life::Boot;
+use flt_life_model::Boot;
 use flt_restore::StartFault;
+use flt_step::{put_number, put_text};
+use flt_store_model::{Mark, Place};
 use std::alloc::AllocError;
 
 /// At most so many bytes has the line that begins a life.

@@ -1,28 +1,24 @@
-//! The lines of a life, written to a sink in pieces, and what is written where a script has none.
+//! The lines of a life, written to a sink in pieces.
 ghost use Rattle.std.specs.Prelude.{◌≡◌, ◌≢◌, ◌+◌, ◌++◌, ◌<◌, ◌^◌, [], OnOk, drop, length, map, slice_index_or, vec_len};
 ghost use Rattle.flt_io.specs.Written.{Writes};
 ghost use Rattle.flt_restore.specs.declared.fault.StartFault.TheVariants.{Flash};
-ghost use Rattle.flt_script.specs.Part.{parts_of};
-ghost use Rattle.flt_life.specs.declared.answer.StepAnswer.TheVariants as answers;
-ghost use Rattle.flt_life.specs.declared.life.Boot.TheVariants.{Refused};
-ghost use Rattle.flt_life.specs.Answers.{IsAnswerWithin, reply_in, with_reply};
-ghost use Rattle.flt_life.specs.Parts.{widths};
-ghost use Rattle.flt_life.specs.Room.{told_in};
+ghost use Rattle.flt_step.specs.Part.{parts_of};
+ghost use Rattle.flt_life_model.specs.declared.answer.StepAnswer.TheVariants as answers;
+ghost use Rattle.flt_life_model.specs.declared.life.Boot.TheVariants.{Refused};
+ghost use Rattle.flt_life_model.specs.Answers.{IsAnswerWithin, reply_in, with_reply};
+ghost use Rattle.flt_life_model.specs.Parts.{widths};
+ghost use Rattle.flt_life_model.specs.Room.{told_in};
 ghost use Rattle.flt_report.specs.Answer.{step_line};
-ghost use Rattle.flt_report.specs.Boot.{script_fault_line, unread_line};
 ghost use Rattle.flt_report.specs.Left.{WritesBut};
 ghost use Rattle.flt_report.specs.Life.{block_text, lane_steps, lane_text, lanes_text, life_text, lines_text, parts_text};
 
 use crate::block::{put_end, put_lane, put_par};
 use crate::boot::put_boot;
-use crate::fault::put_script_fault;
 use crate::step::put_step;
 use flt_io::{Sink, StreamFault};
-use flt_life::{Boot, KeptReply, LaneReplies, StepAnswer};
-use flt_script::{Part, ScriptFault, Step};
-use std::alloc::{AllocError, Global};
-
-const UNREAD: &[u8] = b"read fault\n";
+use flt_life_model::{Boot, KeptReply, LaneReplies, StepAnswer};
+use flt_step::{Part, Step};
+use std::alloc::AllocError;
 
 /// The lines of steps are pushed once they have come to so many bytes.
 const PIECE: usize = 2048;
@@ -246,24 +242,4 @@ pub fn write_life<K: Sink>(
         },
         Boot::Refused(_) => Ok(()),
     }
-}
-
-/// Writes that the source of a script failed.
-pub fn write_unread<K: Sink>(sink: &mut K) -> Result<(), StreamFault>
-    ensures { Writes K.held K.faults sink.old sink.new unread_line result }
-{
-    write_text(UNREAD, sink)
-}
-
-/// Writes why bytes are no script.
-pub fn write_script_fault<K: Sink>(
-    alloc: Global,
-    fault: &ScriptFault,
-    sink: &mut K,
-) -> Result<(), StreamFault>
-    ensures { Writes K.held K.faults sink.old sink.new (script_fault_line fault.now) result }
-{
-    let mut line = Vec::new(alloc);
-    put_script_fault(fault, &mut line)?;
-    write_text(&line, sink)
 }

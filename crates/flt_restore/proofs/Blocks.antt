@@ -6,12 +6,12 @@ use Rattle.std.proofs.lemmas.Bool.{cases_Bool}
 use Rattle.std.proofs.lemmas.List.Sums.{sum_by-append}
 use Rattle.flt_flash.specs.Content.{Content}
 use Rattle.flt_config.specs.declared.config.Config.{Config}
-use Rattle.flt_generation.specs.Layout.{numbers, both_indices, first_part, parts, first_application, applications, application_number}
-use Rattle.flt_generation.specs.Excess.{excess}
-use Rattle.flt_generation.specs.Holding.{damaged_at, is_application, application_fault, applications_judged}
-use Rattle.flt_generation.proofs.Choices.{chosen, not_chosen, range_more}
-use Rattle.flt_generation.proofs.Bridge.{fine_applications}
-use Rattle.flt_generation.proofs.Pages.{both_sum, mapped_sum}
+use Rattle.flt_store_model.specs.Layout.{numbers, both_indices, first_part, parts, first_application, applications, application_number}
+use Rattle.flt_store_model.specs.Excess.{excess}
+use Rattle.flt_store_model.specs.Holding.{damaged_at, is_application, application_fault, applications_judged}
+use Rattle.flt_store_model.proofs.Choices.{chosen, not_chosen, range_more}
+use Rattle.flt_store_model.proofs.Bridge.{fine_applications}
+use Rattle.flt_store_model.proofs.Pages.{both_sum, mapped_sum}
 use Rattle.flt_restore.specs.declared.fault.StartFault.{StartFault}
 use Rattle.flt_restore.specs.Judging.{as_told, application_judged, beyond, beyond_of_part, beyond_of_parts, beyond_of_applications}
 

@@ -7,7 +7,7 @@ use Rattle.flt_flash.specs.Calls.{Follows, SameValues}
 use Rattle.flt_flash.proofs.CallsInARow.{more_calls}
 use Rattle.flt_nvm.specs.Leaves.{HasNoBytes}
 use Rattle.flt_config.specs.declared.config.Config.{Config}
-use Rattle.flt_generation.specs.Layout.{mark_number, first_commit, second_commit}
+use Rattle.flt_store_model.specs.Layout.{mark_number, first_commit, second_commit}
 use Rattle.flt_restore.specs.declared.fault.StartFault.{StartFault}
 use Rattle.flt_restore.specs.declared.fault.StartFault.TheVariants.{Flash}
 use Rattle.flt_restore.specs.Unread.{FailsToRead, IsCommitUnread, IsPartUnread, IsImageUnread}

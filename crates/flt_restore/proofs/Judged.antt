@@ -6,9 +6,9 @@ use Rattle.flt_flash.specs.State.{HasRisenBy}
 use Rattle.flt_flash.specs.Blocks.{BlocksState}
 use Rattle.flt_config.specs.declared.config.Config.{Config}
 use Rattle.flt_config.specs.declared.persist.Persist.{Persist}
-use Rattle.flt_generation.specs.Layout.{number_of, commit_id, first_commit, second_commit}
-use Rattle.flt_generation.specs.Reading.{commit_in}
-use Rattle.flt_generation.specs.Holding.{Generation, Fault, held_by, either_copy, only_bytes}
+use Rattle.flt_store_model.specs.Layout.{number_of, commit_id, first_commit, second_commit}
+use Rattle.flt_store_model.specs.Reading.{commit_in}
+use Rattle.flt_store_model.specs.Holding.{Generation, Fault, held_by, either_copy, only_bytes}
 use Rattle.flt_restore.specs.declared.commit.CommitCopy.{CommitCopy}
 use Rattle.flt_restore.specs.declared.fault.StartFault.{StartFault}
 use Rattle.flt_restore.specs.declared.fault.StartFault.TheVariants.{Flash, Damaged, OtherConfig, SequenceSpent}

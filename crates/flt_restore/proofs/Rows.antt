@@ -6,9 +6,9 @@ use Rattle.flt_nvm.specs.declared.table.Kind.TheVariants.{Native, Redundant, Dat
 use Rattle.flt_nvm.specs.declared.table.Kind.{Kind}
 use Rattle.flt_nvm.specs.Table.{block_in, numbers_taken, HasPlace, IsRedundant}
 use Rattle.flt_config.specs.declared.config.Config.{Config}
-use Rattle.flt_generation.specs.declared.commit.Commit.{Commit}
-use Rattle.flt_generation.specs.Layout.{mark_id, commit_id, first_part, end_part, first_application, applications, is_used, index_in}
-use Rattle.flt_generation.specs.Form.{IsCommit}
+use Rattle.flt_store_model.specs.declared.commit.Commit.{Commit}
+use Rattle.flt_store_model.specs.Layout.{mark_id, commit_id, first_part, end_part, first_application, applications, is_used, index_in}
+use Rattle.flt_store_model.specs.Form.{IsCommit}
 use Rattle.flt_image.specs.Table.{block_table}
 use Rattle.flt_image.proofs.TableRows.{mark_row, commit_row, part_row, application_row}
 use Rattle.flt_restore.specs.Found.{IsIndexOf, IsSingle}

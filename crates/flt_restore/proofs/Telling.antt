@@ -6,7 +6,7 @@ use Rattle.flt_flash.specs.Blocks.{BlocksState}
 use Rattle.flt_flash.specs.State.{HasRisenBy}
 use Rattle.flt_flash.proofs.CallsInARow.{no_call, more_calls}
 use Rattle.flt_config.specs.declared.config.Config.{Config}
-use Rattle.flt_generation.specs.Holding.{Fault, damaged, other, ◌>>=◌}
+use Rattle.flt_store_model.specs.Holding.{Fault, damaged, other, ◌>>=◌}
 use Rattle.flt_restore.specs.declared.fault.StartFault.{StartFault}
 use Rattle.flt_restore.specs.declared.fault.StartFault.TheVariants.{Flash, Damaged, OtherConfig, SequenceSpent}
 use Rattle.flt_restore.specs.Found.{Reads}

@@ -5,11 +5,11 @@ use Rattle.flt_flash.specs.Content.{Content, missing, bytes}
 use Rattle.flt_flash.specs.State.{HasRisenBy}
 use Rattle.flt_flash.specs.Blocks.{BlocksState, pages_of}
 use Rattle.flt_config.specs.declared.config.Config.{Config}
-use Rattle.flt_generation.specs.Layout.{number_of, first_commit, second_commit, first_part, first_application, application_number}
-use Rattle.flt_generation.specs.Form.{mark_of}
-use Rattle.flt_generation.specs.Reading.{commit_in}
-use Rattle.flt_generation.specs.Excess.{own_pages}
-use Rattle.flt_generation.specs.Holding.{Fault, damaged, other, damaged_at, either_copy, is_application}
+use Rattle.flt_store_model.specs.Layout.{number_of, first_commit, second_commit, first_part, first_application, application_number}
+use Rattle.flt_store_model.specs.Form.{mark_of}
+use Rattle.flt_store_model.specs.Reading.{commit_in}
+use Rattle.flt_store_model.specs.Excess.{own_pages}
+use Rattle.flt_store_model.specs.Holding.{Fault, damaged, other, damaged_at, either_copy, is_application}
 use Rattle.flt_restore.specs.declared.commit.CommitCopy.{CommitCopy}
 use Rattle.flt_restore.specs.Restored.{HasBytes}
 use Rattle.flt_restore.specs.declared.fault.StartFault.{StartFault}

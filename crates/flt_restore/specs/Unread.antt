@@ -8,7 +8,7 @@ use Rattle.flt_nvm.specs.declared.got.Got.{Got}
 use Rattle.flt_nvm.specs.Leaves.{HasNoBytes}
 use Rattle.flt_nvm.specs.Reads.{LooksInAJob}
 use Rattle.flt_config.specs.declared.config.Config.{Config}
-use Rattle.flt_generation.specs.Layout.{mark_number, first_commit, second_commit, number_of, is_used}
+use Rattle.flt_store_model.specs.Layout.{mark_number, first_commit, second_commit, number_of, is_used}
 
 -- Among these calls the flash failed three reads of a number in a row.
 pub record FailsToRead (number : ℕ) (before after : BlocksState) : Type 0 where

@@ -1,7 +1,7 @@
 //! What a start-up finds.
 
-use flt_generation::Commit;
 use flt_image::BlockBytes;
+use flt_store_model::Commit;
 
 /// A commit as it was read.
 #[derive(Drop)]

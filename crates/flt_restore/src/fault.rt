@@ -4,7 +4,7 @@ ghost use Rattle.std.specs.Prelude.{◌≡◌};
 ghost use Rattle.flt_restore.specs.Told.{told_of};
 
 use flt_flash::BlockFault;
-use flt_generation::{Mark, Place};
+use flt_store_model::{Mark, Place};
 use thiserror::Error;
 
 /// Why a start-up did not succeed.

@@ -2,9 +2,9 @@
 ghost use Rattle.std.specs.Prelude.{◌≡◌, ◌≤◌, ◌<◌, length, Ok, IfErr, IfOk, OnOk, IsErrOf, IsTrue, IsFalse};
 ghost use Rattle.flt_nvm.specs.Driver.{driver_of, table_of};
 ghost use Rattle.flt_image.specs.Table.{block_table};
-ghost use Rattle.flt_generation.specs.Layout.{first_part, end_part, mark_number, parts};
-ghost use Rattle.flt_generation.specs.Form.{IsCommit};
-ghost use Rattle.flt_generation.specs.Holding.{held_by, named, parts_read, with_named};
+ghost use Rattle.flt_store_model.specs.Layout.{first_part, end_part, mark_number, parts};
+ghost use Rattle.flt_store_model.specs.Form.{IsCommit};
+ghost use Rattle.flt_store_model.specs.Holding.{held_by, named, parts_read, with_named};
 ghost use Rattle.flt_restore.specs.Found.{content_of, Reads};
 ghost use Rattle.flt_restore.specs.declared.fault.StartFault.TheVariants.{Flash};
 ghost use Rattle.flt_restore.specs.Unread.{IsPartUnread};
@@ -18,9 +18,9 @@ use crate::lengths::{judge_applications, judge_excess};
 use crate::reading::{CommitRead, Held, read_content};
 use flt_config::{Persist, ValidConfig, put_initial};
 use flt_flash::Blocks;
-use flt_generation::{COMMIT_ID, Commit, END_PART, FIRST_PART};
 use flt_image::{get_block, get_commit, is_used};
 use flt_nvm::Nvm;
+use flt_store_model::{COMMIT_ID, Commit, END_PART, FIRST_PART};
 
 /// Takes one part if it is used, with those that were taken before.
 fn read_part<B: Blocks + Drop>(

@@ -2,18 +2,18 @@
 ghost use Rattle.std.specs.Prelude.{◌≡◌, ◌≤◌, ◌<◌, ℕ, ◌↔◌, IsTrue};
 ghost use Rattle.flt_flash.specs.Calls.{found_of};
 ghost use Rattle.flt_flash.specs.Content.{Content};
-ghost use Rattle.flt_generation.specs.Holding.{is_same_mark, marked, is_application};
+ghost use Rattle.flt_store_model.specs.Holding.{is_same_mark, marked, is_application};
 ghost use Rattle.flt_restore.specs.Found.{content_of};
 ghost use Rattle.flt_restore.specs.Judging.{as_told};
-ghost use Rattle.flt_generation.specs.Form.{mark_of};
+ghost use Rattle.flt_store_model.specs.Form.{mark_of};
 ghost use Rattle.flt_restore.specs.Restored.{IsMarkDue};
 
 use crate::fault::StartFault;
 use crate::reading::Held;
 use flt_config::ValidConfig;
 use flt_flash::Found;
-use flt_generation::{APPLICATION_LENGTH, MARK_ID, Mark, Place};
 use flt_image::{get_mark, mark_of, put_mark_1};
+use flt_store_model::{APPLICATION_LENGTH, MARK_ID, Mark, Place};
 
 /// The fault of a block.
 pub(crate) fn damaged(id: u16) -> StartFault
@@ -29,7 +29,7 @@ fn is_same(first: &Mark, second: &Mark) -> bool
 }
 
 /// The mark has to be the configuration's; it may be missing if the commit is.
-#[tactic(auto, unfolding(flt_generation::specs::Holding::marked))]
+#[tactic(auto, unfolding(flt_store_model::specs::Holding::marked))]
 pub(crate) fn judge_mark(config: &ValidConfig, mark: &Held, commit: &Held) -> Result<(), StartFault>
     ensures { result ≡ as_told config.now (marked config.now (content_of mark.now) (content_of commit.now)) }
 {

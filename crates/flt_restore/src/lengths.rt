@@ -3,9 +3,9 @@ ghost use Rattle.std.specs.Prelude.{◌≡◌, ◌≤◌, ◌<◌, ◌+◌, ◌*
 ghost use Rattle.flt_nvm.specs.Driver.{driver_of, table_of};
 ghost use Rattle.flt_nvm.specs.Table.{HasPlace};
 ghost use Rattle.flt_image.specs.Table.{block_table};
-ghost use Rattle.flt_generation.specs.Layout.{first_part, end_part, applications, number_of, parts};
-ghost use Rattle.flt_generation.specs.Excess.{excess};
-ghost use Rattle.flt_generation.specs.Holding.{applications_judged, excess_judged};
+ghost use Rattle.flt_store_model.specs.Layout.{first_part, end_part, applications, number_of, parts};
+ghost use Rattle.flt_store_model.specs.Excess.{excess};
+ghost use Rattle.flt_store_model.specs.Holding.{applications_judged, excess_judged};
 ghost use Rattle.flt_restore.specs.Judging.{as_told, application_judged, beyond, beyond_of_applications, beyond_of_part, beyond_of_parts};
 
 use crate::fault::StartFault;
@@ -13,10 +13,10 @@ use crate::judging::{damaged, is_application};
 use crate::pages::{found_pages, own_pages};
 use flt_config::{ValidConfig, needed_pages};
 use flt_flash::Blocks;
-use flt_generation::{
+use flt_nvm::Nvm;
+use flt_store_model::{
     APPLICATIONS, COMMIT_ID, END_PART, FIRST_APPLICATION, FIRST_PART, MARK_ID, NUMBERS_PER_BLOCK,
 };
-use flt_nvm::Nvm;
 
 /// Judges one application block.
 fn judge_application<B: Blocks + Drop>(
@@ -122,7 +122,7 @@ fn excess<B: Blocks + Drop>(nvm: &Nvm<B>, config: &ValidConfig) -> u32
 }
 
 /// The excess must fit into the pages that the configuration leaves.
-#[tactic(auto, unfolding(flt_generation::specs::Holding::excess_judged))]
+#[tactic(auto, unfolding(flt_store_model::specs::Holding::excess_judged))]
 pub(crate) fn judge_excess<B: Blocks + Drop>(
     nvm: &Nvm<B>,
     config: &ValidConfig,

@@ -3,17 +3,17 @@ ghost use Rattle.std.specs.Prelude.{◌≡◌, ◌≢◌, ◌<◌, ◌≤◌, �
 ghost use Rattle.flt_nvm.specs.Driver.{driver_of, table_of};
 ghost use Rattle.flt_image.specs.Table.{block_table};
 ghost use Rattle.flt_image.specs.Blocks.{bytes_at};
-ghost use Rattle.flt_generation.specs.Layout.{first_part, end_part, is_used};
-ghost use Rattle.flt_generation.specs.Form.{IsCommit};
+ghost use Rattle.flt_store_model.specs.Layout.{first_part, end_part, is_used};
+ghost use Rattle.flt_store_model.specs.Form.{IsCommit};
 ghost use Rattle.flt_restore.specs.Found.{content_of, Reads};
 ghost use Rattle.flt_restore.specs.Learning.{AreLearned, IsLearned, part_in};
 
 use crate::reading::{Held, read_content};
 use flt_config::ValidConfig;
 use flt_flash::Blocks;
-use flt_generation::{Commit, END_PART, FIRST_PART};
 use flt_image::{LONGEST, StateBlocks, is_used};
 use flt_nvm::Nvm;
+use flt_store_model::{Commit, END_PART, FIRST_PART};
 
 /// The bytes that a block of a state may have; empty if it has none or too many.
 fn part_in(held: &Held) -> &[u8]

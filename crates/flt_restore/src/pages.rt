@@ -3,17 +3,17 @@ ghost use Rattle.std.specs.Prelude.{◌≡◌, ◌≤◌};
 ghost use Rattle.flt_flash.specs.Blocks.{pages_of, record_pages};
 ghost use Rattle.flt_flash.specs.Calls.{found_of};
 ghost use Rattle.flt_flash.specs.Content.{Content};
-ghost use Rattle.flt_generation.specs.Excess.{is_own_part, is_own_application, own_pages};
-ghost use Rattle.flt_generation.specs.Layout.{id_of, index_of};
+ghost use Rattle.flt_store_model.specs.Excess.{is_own_part, is_own_application, own_pages};
+ghost use Rattle.flt_store_model.specs.Layout.{id_of, index_of};
 ghost use Rattle.flt_restore.specs.Found.{size_found};
 
 use flt_config::ValidConfig;
 use flt_flash::Found;
-use flt_generation::{
+use flt_image::{is_used, part_of};
+use flt_store_model::{
     APPLICATION_LENGTH, COMMIT_LENGTH, FIRST_APPLICATION, FIRST_COMMIT, MARK_LENGTH, MARK_NUMBER,
     NUMBERS_PER_BLOCK, SECOND_COMMIT,
 };
-use flt_image::{is_used, part_of};
 
 /// The pages of a record of this many bytes.
 fn record_pages(length: usize) -> u32
@@ -65,7 +65,7 @@ fn is_own_application(config: &ValidConfig, number: u16) -> bool
 }
 
 /// The pages of the longest record that the configuration keeps under a number, or 0 if it keeps none.
-#[tactic(auto, unfolding(flt_generation::specs::Excess::own_pages))]
+#[tactic(auto, unfolding(flt_store_model::specs::Excess::own_pages))]
 pub(crate) fn own_pages(config: &ValidConfig, number: u16) -> u32
     ensures { result ≡ own_pages config.now number }
 {

@@ -6,16 +6,16 @@ ghost use Rattle.flt_flash.specs.declared.blocks.BlockFault.TheVariants.{Flash};
 ghost use Rattle.flt_nvm.specs.Driver.{driver_of, table_of};
 ghost use Rattle.flt_nvm.specs.Leaves.{GotOf};
 ghost use Rattle.flt_image.specs.Table.{block_table};
-ghost use Rattle.flt_generation.specs.Layout.{commit_id, number_of};
+ghost use Rattle.flt_store_model.specs.Layout.{commit_id, number_of};
 ghost use Rattle.flt_restore.specs.Found.{content_of, IsShortRead, IsSingle, Reads};
 ghost use Rattle.flt_restore.specs.Judging.{IsSource};
 ghost use Rattle.flt_restore.specs.Unread.{FailsToRead, IsCommitUnread};
 
 use arrayvec::ArrayVec;
 use flt_flash::{BlockFault, Blocks, Found};
-use flt_generation::COMMIT_ID;
 use flt_image::BlockBytes;
 use flt_nvm::{Got, Nvm};
+use flt_store_model::COMMIT_ID;
 
 /// What a block holds.
 #[derive(Drop)]

@@ -6,8 +6,8 @@ ghost use Rattle.flt_image.specs.Table.{block_table};
 ghost use Rattle.flt_restore.specs.declared.fault.StartFault.TheVariants.{Flash, SequenceSpent};
 ghost use Rattle.flt_restore.specs.Unread.{IsImageUnread};
 ghost use Rattle.flt_restore.specs.Restored.{IsRestored, Restores, Refuses, IsMarkDue};
-ghost use Rattle.flt_generation.specs.Form.{mark_of};
-ghost use Rattle.flt_generation.specs.Layout.{mark_number};
+ghost use Rattle.flt_store_model.specs.Form.{mark_of};
+ghost use Rattle.flt_store_model.specs.Layout.{mark_number};
 
 use crate::commit::Restored;
 use crate::fault::StartFault;
@@ -16,8 +16,8 @@ use crate::judging::is_mark_due;
 use crate::reading::{read_commit, read_content};
 use flt_config::{Persist, ValidConfig};
 use flt_flash::Blocks;
-use flt_generation::MARK_ID;
 use flt_nvm::Nvm;
+use flt_store_model::MARK_ID;
 
 /// Finds out what the image of a driver that is not stale holds: the commit by which it was judged, with its state in `out`, or
 /// `None` for the first generation; and whether its mark has to be written. It judges by copy 1 of the commit, or by copy 2 if copy 1

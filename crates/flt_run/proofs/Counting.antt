@@ -9,22 +9,22 @@ use Rattle.flt_model.specs.Reply.{Reply}
 use Rattle.flt_queue.specs.declared.job.QueueOp.{QueueOp}
 use Rattle.flt_queue.specs.declared.job.QueueOp.TheVariants as queue
 use Rattle.flt_queue.specs.declared.job.QueueReply.{QueueReply}
-use Rattle.flt_script.specs.declared.step.Step.{Step}
-use Rattle.flt_script.specs.Part.{PartOf}
-use Rattle.flt_script.specs.Step.{is_store_step}
+use Rattle.flt_step.specs.declared.step.Step.{Step}
+use Rattle.flt_step.specs.Part.{PartOf}
+use Rattle.flt_step.specs.Step.{is_store_step}
 use Rattle.flt_turn.specs.declared.vault.Entry.{Entry}
 use Rattle.flt_turn.specs.Sums.{one_if}
-use Rattle.flt_life.specs.declared.action.Action.{Action}
-use Rattle.flt_life.specs.declared.action.Action.TheVariants as action
-use Rattle.flt_life.specs.Actions.{IsQueueCall, IsStepCall, action_of}
-use Rattle.flt_life.specs.Answers.{Told}
-use Rattle.flt_life.specs.Draining.{DrainMakes, Drained, IsLastTake, QueueCall, calls_for_all}
-use Rattle.flt_life.specs.Journal.{Journal}
+use Rattle.flt_life_model.specs.declared.action.Action.{Action}
+use Rattle.flt_life_model.specs.declared.action.Action.TheVariants as action
+use Rattle.flt_life_model.specs.Actions.{IsQueueCall, IsStepCall, action_of}
+use Rattle.flt_life_model.specs.Answers.{Told}
+use Rattle.flt_life_model.specs.Draining.{DrainMakes, Drained, IsLastTake, QueueCall, calls_for_all}
+use Rattle.flt_life_model.specs.Journal.{Journal}
 use Rattle.flt_fork.specs.Mixing.{Call, ops_asked}
-use Rattle.flt_life.specs.Ordered.{Deed, deeds_in}
-use Rattle.flt_life.specs.Played.{ActionMakes, ActionQueues, DrainTold, IsMade, SaveMakes, StepMakes, StepQueues}
-use Rattle.flt_life.specs.declared.answer.StepAnswer.TheVariants as answers
-use Rattle.flt_life.proofs.ByAction.{IsStepAction, is_step_action, touches_by, touches_store}
+use Rattle.flt_life_model.specs.Ordered.{Deed, deeds_in}
+use Rattle.flt_life_model.specs.Played.{ActionMakes, ActionQueues, DrainTold, IsMade, SaveMakes, StepMakes, StepQueues}
+use Rattle.flt_life_model.specs.declared.answer.StepAnswer.TheVariants as answers
+use Rattle.flt_life_model.proofs.ByAction.{IsStepAction, is_step_action, touches_by, touches_store}
 use Rattle.flt_lane.specs.Living.{drain_call, drains_by, drains_in, drains_of, last_take, save_call, saves_by, saves_in, saves_of}
 use Rattle.flt_run.proofs.Weights.{amount_newest, amount_of, follows_most, parts_most, weigh, weigh_ops}
 

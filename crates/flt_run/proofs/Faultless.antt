@@ -6,7 +6,7 @@ use Rattle.flt_config.specs.declared.config.DidUse.{DidUse}
 use Rattle.flt_script.specs.Script.{ScriptContent, script_of}
 use Rattle.flt_run.specs.declared.command.Command.{Command}
 use Rattle.flt_run.specs.declared.command.Command.TheVariants.{Run, Check, Load}
-use Rattle.flt_report.specs.Fetched.{read_of}
+use Rattle.flt_script.specs.Fetched.{read_of}
 use Rattle.flt_run.specs.Ending.{Inside, Outside, IsFaultless, IsLastFine, LivesHaveCause, StatusesHaveCauses, is_among}
 
 -- A number that is among some is the first of them, or among the others.

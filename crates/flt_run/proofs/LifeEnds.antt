@@ -8,27 +8,27 @@ use Rattle.flt_config.specs.declared.config.Config.{Config}
 use Rattle.flt_config.specs.declared.persist.Persist.{Persist}
 use Rattle.flt_flash.specs.State.{HasRisenBy}
 use Rattle.flt_flash.specs.declared.blocks.Blocks.{Ghosts}
-use Rattle.flt_generation.specs.Holding.{Generation}
+use Rattle.flt_store_model.specs.Holding.{Generation}
 use Rattle.flt_model.specs.Start.{Start}
 use Rattle.flt_queue.specs.declared.job.QueueOp.{QueueOp}
 use Rattle.flt_queue.specs.Call as queued
-use Rattle.flt_script.specs.declared.step.Step.{Step}
-use Rattle.flt_script.specs.Part.{PartOf}
+use Rattle.flt_step.specs.declared.step.Step.{Step}
+use Rattle.flt_step.specs.Part.{PartOf}
 use Rattle.flt_store.specs.declared.store.Store.{Store}
 use Rattle.flt_store.specs.Store.{IsAlive, IsRunning, driver_of, numbered}
 use Rattle.flt_turn.specs.declared.vault.Entry.{Entry}
 use Rattle.flt_turn.specs.Seats.{main_seat}
-use Rattle.flt_life.specs.Answers.{Told}
-use Rattle.flt_life.specs.Causes.{AreCaused}
-use Rattle.flt_life.specs.Chain.{start_from}
-use Rattle.flt_life.specs.Journal.{Journal}
-use Rattle.flt_life.specs.Moment.{Moment, moment_of}
-use Rattle.flt_life.specs.Ordered.{deeds_in}
-use Rattle.flt_life.specs.Parts.{IsPossibleInLane, IsPossiblePart, steps_in}
-use Rattle.flt_life.specs.Played.{IsLife, IsMade, StepMakes, StepQueues}
+use Rattle.flt_life_model.specs.Answers.{Told}
+use Rattle.flt_life_model.specs.Causes.{AreCaused}
+use Rattle.flt_life_model.specs.Chain.{start_from}
+use Rattle.flt_life_model.specs.Journal.{Journal}
+use Rattle.flt_life_model.specs.Moment.{Moment, moment_of}
+use Rattle.flt_life_model.specs.Ordered.{deeds_in}
+use Rattle.flt_life_model.specs.Parts.{IsPossibleInLane, IsPossiblePart, steps_in}
+use Rattle.flt_life_model.specs.Played.{IsLife, IsMade, StepMakes, StepQueues}
 use Rattle.flt_shared.specs.Call.{Seat, reply_after}
-use Rattle.flt_life.specs.SoFar.{IsCaused, IsKeptSince}
-use Rattle.flt_life.proofs.Causing.{are_caused}
+use Rattle.flt_life_model.specs.SoFar.{IsCaused, IsKeptSince}
+use Rattle.flt_life_model.proofs.Causing.{are_caused}
 use Rattle.flt_lane.specs.Block.{HaveRunParts}
 use Rattle.flt_fork.specs.Lived.{CouldClose}
 use Rattle.flt_lane.specs.Living.{Carries, answers_of, drains_in, drains_of, saves_in, saves_of}

@@ -10,15 +10,15 @@ use Rattle.flt_flash.specs.State.{PowerUp}
 use Rattle.flt_config.specs.declared.config.Config.{Config}
 use Rattle.flt_restore.specs.declared.fault.StartFault.TheVariants.{Flash}
 use Rattle.flt_script.specs.declared.script.Script.{Script}
-use Rattle.flt_script.specs.declared.step.Part.{Part}
-use Rattle.flt_script.specs.declared.step.Step.{Step}
-use Rattle.flt_script.specs.Part.{PartOf, parts_of}
-use Rattle.flt_life.specs.declared.life.Boot.{Boot}
-use Rattle.flt_life.specs.declared.life.Boot.TheVariants.{Refused}
-use Rattle.flt_life.specs.declared.life.Life.{Life}
-use Rattle.flt_life.specs.Chain.{LifeView, IsLifeBegunBy, AreLinked}
-use Rattle.flt_life.specs.Lives.{lists, lives_seen, view_of, views_of}
-use Rattle.flt_life.specs.Moment.{Moment, Medium, moment_at}
+use Rattle.flt_step.specs.declared.step.Part.{Part}
+use Rattle.flt_step.specs.declared.step.Step.{Step}
+use Rattle.flt_step.specs.Part.{PartOf, parts_of}
+use Rattle.flt_life_model.specs.declared.life.Boot.{Boot}
+use Rattle.flt_life_model.specs.declared.life.Boot.TheVariants.{Refused}
+use Rattle.flt_life_model.specs.declared.life.Life.{Life}
+use Rattle.flt_life_model.specs.Chain.{LifeView, IsLifeBegunBy, AreLinked}
+use Rattle.flt_life_model.specs.Lives.{lists, lives_seen, view_of, views_of}
+use Rattle.flt_life_model.specs.Moment.{Moment, Medium, moment_at}
 use Rattle.flt_lives.specs.Devices.{CanLiveOn, LivesOn}
 use Rattle.flt_report.proofs.Possible.{all_arms_same, all_widths_same, possible_lives}
 use Rattle.flt_run.specs.declared.made.Made.{Made}

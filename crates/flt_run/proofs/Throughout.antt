@@ -7,23 +7,23 @@ use Rattle.flt_flash.specs.declared.arm.ArmMade.{ArmMade}
 use Rattle.flt_flash.specs.State.{FlashState, PowerUp}
 use Rattle.flt_config.specs.declared.config.Config.{Config}
 use Rattle.flt_config.specs.declared.config.DidUse.{DidUse}
-use Rattle.flt_generation.specs.Laws.{IsGiven}
-use Rattle.flt_generation.proofs.ImageLaws.{held_stands, spare_stands}
+use Rattle.flt_store_model.specs.Laws.{IsGiven}
+use Rattle.flt_store_model.proofs.ImageLaws.{held_stands, spare_stands}
 use Rattle.flt_restore.specs.declared.fault.StartFault.TheVariants as faults
 use Rattle.flt_flash.specs.Blocks.{device_of}
-use Rattle.flt_script.specs.declared.step.Step.{Step}
-use Rattle.flt_script.specs.Part.{PartOf}
+use Rattle.flt_step.specs.declared.step.Step.{Step}
+use Rattle.flt_step.specs.Part.{PartOf}
 use Rattle.flt_script.specs.Script.{ScriptContent}
-use Rattle.flt_life.specs.declared.life.Boot.{Boot}
-use Rattle.flt_life.specs.declared.life.Boot.TheVariants as began
-use Rattle.flt_life.specs.declared.life.Life.{Life}
-use Rattle.flt_life.specs.Chain.{LifeView, AreLinked, arms_between}
-use Rattle.flt_life.specs.Laws.{IsUndamaged, first_boot}
-use Rattle.flt_life.specs.Lives.{AreEnded, lists, lives_seen}
-use Rattle.flt_life.specs.Moment.{Medium, boot_in}
-use Rattle.flt_life.specs.Statuses.{status_by, status_of_lives}
-use Rattle.flt_life.proofs.Soundness.{stays_sound}
-use Rattle.flt_life.proofs.Older.{never_lost}
+use Rattle.flt_life_model.specs.declared.life.Boot.{Boot}
+use Rattle.flt_life_model.specs.declared.life.Boot.TheVariants as began
+use Rattle.flt_life_model.specs.declared.life.Life.{Life}
+use Rattle.flt_life_model.specs.Chain.{LifeView, AreLinked, arms_between}
+use Rattle.flt_life_model.specs.Laws.{IsUndamaged, first_boot}
+use Rattle.flt_life_model.specs.Lives.{AreEnded, lists, lives_seen}
+use Rattle.flt_life_model.specs.Moment.{Medium, boot_in}
+use Rattle.flt_life_model.specs.Statuses.{status_by, status_of_lives}
+use Rattle.flt_life_model.proofs.Soundness.{stays_sound}
+use Rattle.flt_life_model.proofs.Older.{never_lost}
 use Rattle.flt_run.specs.declared.command.Command.{Command}
 use Rattle.flt_run.specs.declared.ending.Ending.{Ending}
 use Rattle.flt_run.specs.declared.ending.Ending.TheVariants.{Usage, Unreadable, Refused, Accepted, Ran, Loaded}

@@ -4,17 +4,17 @@ use Rattle.std.specs.Prelude.{Contains, ◌==◌}
 use Rattle.std.proofs.lemmas.Bool.{true≢false}
 use Rattle.std.proofs.lemmas.List.{reverse-append, take_at, drop_at}
 use Rattle.std.proofs.lemmas.List.Elements.{All-head, All-tail}
-use Rattle.flt_script.specs.declared.step.Step.{Step}
-use Rattle.flt_script.specs.Part.{PartOf}
-use Rattle.flt_script.specs.Step.{is_store_step}
+use Rattle.flt_step.specs.declared.step.Step.{Step}
+use Rattle.flt_step.specs.Part.{PartOf}
+use Rattle.flt_step.specs.Step.{is_store_step}
 use Rattle.flt_turn.specs.declared.vault.Entry.{Entry}
 use Rattle.flt_turn.specs.Journal.{calls_of}
-use Rattle.flt_life.specs.Answers.{Told}
+use Rattle.flt_life_model.specs.Answers.{Told}
 use Rattle.flt_fork.specs.Making.{AreMadeBy, LanesMake}
-use Rattle.flt_life.specs.Making.{PartMakes, PartsMake}
+use Rattle.flt_life_model.specs.Making.{PartMakes, PartsMake}
 use Rattle.flt_fork.specs.Mixing.{Block, Call, HasInOrder, Mixes, asked_of, ops_asked}
-use Rattle.flt_life.specs.Ordered.{Deed, block_deeds, deed_if, deeds_in, lane_deeds}
-use Rattle.flt_life.specs.Parts.{width}
+use Rattle.flt_life_model.specs.Ordered.{Deed, block_deeds, deed_if, deeds_in, lane_deeds}
+use Rattle.flt_life_model.specs.Parts.{width}
 use Rattle.flt_fork.proofs.Journals.{head_call, no_call_behind}
 use Rattle.flt_lane.proofs.LaneDeeds.{lanes_told_count}
 

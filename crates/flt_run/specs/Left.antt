@@ -1,8 +1,8 @@
 -- What is left to be written of lives.
 use Rattle.std.specs.Prelude.{ℕ, ◌+◌, List, Vec, drop}
-use Rattle.flt_script.specs.declared.step.Part.{Part}
-use Rattle.flt_life.specs.declared.life.Life.{Life}
-use Rattle.flt_life.specs.Lives.{lists}
+use Rattle.flt_step.specs.declared.step.Part.{Part}
+use Rattle.flt_life_model.specs.declared.life.Life.{Life}
+use Rattle.flt_life_model.specs.Lives.{lists}
 use Rattle.flt_run.specs.Report.{lives_text}
 
 -- The lines of the lives from an index on.

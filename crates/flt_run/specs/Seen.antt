@@ -2,7 +2,7 @@
 use Rattle.std.specs.Prelude.{ℕ, List, Option}
 use Rattle.flt_config.specs.declared.config.Config.{Config}
 use Rattle.flt_flash.specs.State.{FlashState}
-use Rattle.flt_life.specs.Moment.{Medium}
+use Rattle.flt_life_model.specs.Moment.{Medium}
 use Rattle.flt_run.specs.Ending.{Inside, Outside}
 
 -- The inside of a run: a source that tells the bytes that it has left and its count of faults, and a device over media.
@@ -12,18 +12,6 @@ inside_of left faults source source_after media device device_after = record {
   left_after = left source_after;
   read_faults = faults source;
   read_faults_after = faults source_after;
-  media = media;
-  device = device;
-  device_after = device_after;
-}
-
--- The inside of a run that reads nothing of what a source has left.
-abbrev pub unread_inside : Option (List ℕ) → ℕ → (Config → Medium) → FlashState → FlashState → Inside
-unread_inside left faults media device device_after = record {
-  left = left;
-  left_after = left;
-  read_faults = faults;
-  read_faults_after = faults;
   media = media;
   device = device;
   device_after = device_after;

@@ -1,14 +1,15 @@
 ghost use Rattle.std.specs.Prelude.{◌≡◌, ◌≤◌, IfOk, length};
 ghost use Rattle.std.specs.String.{string_bytes};
 ghost use Rattle.flt_config.specs.Validity.{needed_pages};
-ghost use Rattle.flt_life.specs.Lives.{lists};
+ghost use Rattle.flt_life_model.specs.Lives.{lists};
 ghost use Rattle.flt_script.specs.Script.{content};
-ghost use Rattle.flt_script.specs.Part.{part_of, parts_of};
-ghost use Rattle.flt_script.specs.Step.{steps_of, steps_of_part};
+ghost use Rattle.flt_step.specs.Part.{part_of, parts_of};
+ghost use Rattle.flt_step.specs.Step.{steps_of, steps_of_part};
 ghost use Rattle.flt_run.specs.Report.{accepted_text, step_count};
 
 use flt_config::needed_pages;
-use flt_script::{Part, Script};
+use flt_script::Script;
+use flt_step::Part;
 use std::alloc::{AllocError, Global};
 use std::fmt;
 

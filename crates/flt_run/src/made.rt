@@ -1,12 +1,12 @@
 //! The lives of a script that were made.
 ghost use Rattle.std.specs.Prelude.{◌≢◌, ◌<◌, ◌≤◌, All, vec_len};
 ghost use Rattle.flt_restore.specs.declared.fault.StartFault.TheVariants.{Flash};
-ghost use Rattle.flt_script.specs.Part.{parts_of};
-ghost use Rattle.flt_life.specs.declared.life.Boot.TheVariants.{Refused};
-ghost use Rattle.flt_life.specs.Parts.{widths};
+ghost use Rattle.flt_step.specs.Part.{parts_of};
+ghost use Rattle.flt_life_model.specs.declared.life.Boot.TheVariants.{Refused};
+ghost use Rattle.flt_life_model.specs.Parts.{widths};
 
-use flt_life::Life;
-use flt_script::Part;
+use flt_life_model::Life;
+use flt_step::Part;
 
 /// The lives of a script that were made, or began and the last was refused.
 #[derive(Drop)]

@@ -1,26 +1,27 @@
 //! What a run comes to by its command, before it is told: the lives of its script over a device, or an answer without lives, and the
 //! device as they left it. It comes to nothing if memory runs out.
-ghost use Rattle.std.specs.Prelude.{◌≡◌, ◌≢◌, ◌≤◌, ℕ, List, Option, None, Some, All, IfSome, false, true};
+ghost use Rattle.std.specs.Prelude.{◌≡◌, ◌≢◌, ◌≤◌, Option, None, Some, All, IfErr, IfOk, IfSome, IsTrue};
+ghost use Rattle.std.specs.Io.KnownBytes.{IsAtEnd};
 ghost use Rattle.flt_flash.specs.State.{FlashState};
 ghost use Rattle.flt_flash.specs.Blocks.{device_of};
 ghost use Rattle.flt_config.specs.declared.config.Config.{Config};
-ghost use Rattle.flt_config.specs.declared.config.DidUse.{DidUse};
 ghost use Rattle.flt_did.specs.Serves.{Serves};
 ghost use Rattle.flt_did.specs.Table.{dids_of};
-ghost use Rattle.flt_script.specs.Part.{parts_of};
+ghost use Rattle.flt_step.specs.Part.{parts_of};
 ghost use Rattle.flt_script.specs.Script.{content};
-ghost use Rattle.flt_generation.specs.Laws.{IsGiven};
+ghost use Rattle.flt_script.specs.Fetched.{AreScript};
+ghost use Rattle.flt_store_model.specs.Laws.{IsGiven};
 ghost use Rattle.flt_restore.specs.declared.fault.StartFault.TheVariants.{Flash};
-ghost use Rattle.flt_life.specs.declared.life.Boot.TheVariants.{Refused};
-ghost use Rattle.flt_life.specs.Lives.{lists};
-ghost use Rattle.flt_life.specs.Moment.{Medium};
+ghost use Rattle.flt_life_model.specs.declared.life.Boot.TheVariants.{Refused};
+ghost use Rattle.flt_life_model.specs.Lives.{lists};
+ghost use Rattle.flt_life_model.specs.Moment.{Medium};
 ghost use Rattle.flt_lives.specs.Alone.{AreAlone};
 ghost use Rattle.flt_lives.specs.Devices.{LivesOn, ServesAll};
-ghost use Rattle.flt_run.specs.declared.command.Command.TheVariants as commands;
-ghost use Rattle.flt_run.specs.declared.ending.Ending.TheVariants.{Usage};
-ghost use Rattle.flt_run.specs.Command.{IsInRange, plain_of};
+ghost use Rattle.flt_run.specs.declared.command.Command.{Command as Commands};
+ghost use Rattle.flt_run.specs.Command.{IsInRange, plain_of, reads};
 ghost use Rattle.flt_run.specs.Ending.{ComesTo, EndingHasCause};
-ghost use Rattle.flt_run.specs.Seen.{inside_of, unread_inside};
+ghost use Rattle.flt_run.specs.Scripted.{HasScript, ending_by};
+ghost use Rattle.flt_run.specs.Seen.{inside_of};
 
 use crate::command::Command;
 use crate::ending::Ending;
@@ -32,10 +33,9 @@ use flt_dem::Dem;
 use flt_did::{DID_ROWS, DidTable};
 use flt_io::Source;
 use flt_lane::SharedGate;
-use flt_life::Life;
+use flt_life_model::Life;
 use flt_lives::{Driver, Run, run_alone};
-use flt_report::{Fetched, fetch};
-use flt_script::{Script, load};
+use flt_script::{Fetched, Script, fetch, load};
 use std::alloc::Global;
 use std::marker::Sync;
 use std::sync::Wait;
@@ -106,43 +106,81 @@ fn live_in_lanes<R: Threads + Wait + Sync, G: SharedGate, D: Driver>(
     run_in_lanes::<R, G, D>(rt, gate, alloc, device, &script.config, dids, &script.lives)
 }
 
-/// Reads the script, and makes none of its steps.
-fn check<S: Source>(alloc: Global, source: &mut S, dids: &DidTable<DID_ROWS>) -> Option<Ending>
-    ensures { (media : Config → Medium) (device : FlashState) → IfSome result (EndingHasCause (dids_of dids.now)
-        (inside_of S.left S.faults source.old source.new media device device) (Some commands.Check) None) }
+/// The script that the source has. The error is what the run comes to without one: its ending, or nothing if memory ran out. It is not
+/// inlined: a script is large, and LLVM takes minutes for a function that moves it several times.
+#[inline(never)]
+fn read_script<S: Source>(
+    alloc: Global,
+    source: &mut S,
+    dids: &DidTable<DID_ROWS>,
+) -> Result<Script, Option<Ending>>
+    ensures read { IfOk result (λ script. IsAtEnd (S.left source.new) × AreScript (dids_of dids.now) (S.left source.old) (content script)) }
+    ensures served { IfOk result (λ script. Serves (dids_of dids.now) script.config.events.items) }
+    ensures without { (media : Config → Medium) (device : FlashState) (command : Option Commands) → IsTrue (reads command) → IfErr result (λ ending. IfSome ending
+        (EndingHasCause (dids_of dids.now) (inside_of S.left S.faults source.old source.new media device device) command None)) }
 {
     match fetch(alloc, source, dids) {
-        Fetched::Script(script) => Some(Ending::Accepted(script)),
-        Fetched::Refused(fault) => Some(Ending::Refused(fault)),
-        Fetched::Failed => Some(Ending::Unreadable),
-        Fetched::Memory => None,
+        Fetched::Script(script) => Ok(script),
+        Fetched::Refused(fault) => Err(Some(Ending::Refused(fault))),
+        Fetched::Failed => Err(Some(Ending::Unreadable)),
+        Fetched::Memory => Err(None),
     }
 }
 
-/// Makes the lives of a load without lanes.
-fn load_plain<D: Driver>(
+/// The script of which a command makes lives: that of the source, or that of a load. The error is what the run comes to without one: its
+/// ending, or nothing if memory ran out.
+fn script_for<S: Source>(
     alloc: Global,
-    count: u32,
-    device: D::Device,
-    dids: DidTable<DID_ROWS>,
-) -> (Option<Ending>, D::Device)
-    requires some { 1 ≤ count }
-    requires few { count ≤ 60000 }
-    requires serves { ServesAll D.serves (D.device_state device) }
-    requires boots { 256 ≤ (D.device_state device).bench.boots_left }
-    requires unarmed { (D.device_state device).bench.armed ≡ 0 }
-    ensures { (dids : List DidUse) (left : Option (List ℕ)) (faults : ℕ) → ComesTo dids
-        (unread_inside left faults D.medium (D.device_state device) (D.device_state result.1)) (Some (commands.Load count false)) result.0 }
+    command: Command,
+    source: &mut S,
+    dids: &DidTable<DID_ROWS>,
+) -> Result<Script, Option<Ending>>
+    requires { IsInRange (Some command) }
+    ensures script { (media : Config → Medium) (device after : FlashState) → IfOk result (λ script.
+        HasScript (dids_of dids.now) (inside_of S.left S.faults source.old source.new media device after) command (content script)) }
+    ensures served { IfOk result (λ script. Serves (dids_of dids.now) script.config.events.items) }
+    ensures without { (media : Config → Medium) (device : FlashState) → IfErr result (λ ending. IfSome ending
+        (EndingHasCause (dids_of dids.now) (inside_of S.left S.faults source.old source.new media device device) (Some command) None)) }
 {
-    match load(alloc, count, false) {
-        Ok(script) => {
-            let Run { lives, device } = live_alone::<D>(alloc, device, &script, dids);
-            (
-                made_of(script, lives).map(|made| Ending::Loaded(made)),
-                device,
-            )
-        }
-        Err(_) => (None, device),
+    match command {
+        Command::Run => read_script(alloc, source, dids),
+        Command::Check => match read_script(alloc, source, dids) {
+            Ok(script) => Err(Some(Ending::Accepted(script))),
+            Err(ending) => Err(ending),
+        },
+        Command::Load { count, lanes } => match load(alloc, count, lanes) {
+            Ok(script) => Ok(script),
+            Err(_) => Err(None),
+        },
+    }
+}
+
+/// How a command ends that made these lives.
+fn ended(command: Command, made: Made) -> Ending
+    ensures { result ≡ ending_by command made }
+{
+    match command {
+        Command::Load { .. } => Ending::Loaded(made),
+        Command::Run | Command::Check => Ending::Ran(made),
+    }
+}
+
+/// The command, if it needs no lock: a check, or a load without lanes.
+fn plain_of(command: Option<Command>) -> Option<Command>
+    ensures { result ≡ plain_of command }
+{
+    match command {
+        Some(Command::Check) => Some(Command::Check),
+        Some(
+            Command::Load {
+                count,
+                lanes: false,
+            },
+        ) => Some(Command::Load {
+            count,
+            lanes: false,
+        }),
+        _ => None,
     }
 }
 
@@ -161,77 +199,18 @@ pub(crate) fn perform_plain<S: Source, D: Driver>(
     ensures { ComesTo (dids_of dids)
         (inside_of S.left S.faults source.old source.new D.medium (D.device_state device) (D.device_state result.1)) (plain_of command) result.0 }
 {
-    let Some(command) = command else {
+    let Some(command) = plain_of(command) else {
         return (Some(Ending::Usage), device);
     };
-    match command {
-        Command::Check => (check(alloc, source, &dids), device),
-        Command::Load { count, lanes } => {
-            if lanes {
-                return (Some(Ending::Usage), device);
-            }
-            load_plain::<D>(alloc, count, device, dids)
-        }
-        Command::Run => (Some(Ending::Usage), device),
-    }
-}
-
-/// Makes the lives of a load in lanes.
-fn load_in_lanes<R: Threads + Wait + Sync, G: SharedGate, D: Driver>(
-    rt: &R,
-    gate: &G,
-    alloc: Global,
-    count: u32,
-    device: D::Device,
-    dids: DidTable<DID_ROWS>,
-) -> (Option<Ending>, D::Device)
-    requires some { 1 ≤ count }
-    requires few { count ≤ 60000 }
-    requires serves { ServesAll D.serves (D.device_state device) }
-    requires boots { 256 ≤ (D.device_state device).bench.boots_left }
-    requires unarmed { (D.device_state device).bench.armed ≡ 0 }
-    ensures { (dids : List DidUse) (left : Option (List ℕ)) (faults : ℕ) → ComesTo dids
-        (unread_inside left faults D.medium (D.device_state device) (D.device_state result.1)) (Some (commands.Load count true)) result.0 }
-{
-    match load(alloc, count, true) {
+    match script_for(alloc, command, source, &dids) {
         Ok(script) => {
-            let Run { lives, device } = live_in_lanes::<R, G, D>(
-                rt, gate, alloc, device, &script, dids,
-            );
+            let Run { lives, device } = live_alone::<D>(alloc, device, &script, dids);
             (
-                made_of(script, lives).map(|made| Ending::Loaded(made)),
+                made_of(script, lives).map(|made| ended(command, made)),
                 device,
             )
         }
-        Err(_) => (None, device),
-    }
-}
-
-/// Reads the script, and makes its lives.
-fn run_script<R: Threads + Wait + Sync, G: SharedGate, S: Source, D: Driver>(
-    rt: &R,
-    gate: &G,
-    alloc: Global,
-    source: &mut S,
-    device: D::Device,
-    dids: DidTable<DID_ROWS>,
-) -> (Option<Ending>, D::Device)
-    requires serves { ServesAll D.serves (D.device_state device) }
-    requires boots { 256 ≤ (D.device_state device).bench.boots_left }
-    requires unarmed { (D.device_state device).bench.armed ≡ 0 }
-    ensures { ComesTo (dids_of dids)
-        (inside_of S.left S.faults source.old source.new D.medium (D.device_state device) (D.device_state result.1)) (Some commands.Run) result.0 }
-{
-    match fetch(alloc, source, &dids) {
-        Fetched::Script(script) => {
-            let Run { lives, device } = live_in_lanes::<R, G, D>(
-                rt, gate, alloc, device, &script, dids,
-            );
-            (made_of(script, lives).map(|made| Ending::Ran(made)), device)
-        }
-        Fetched::Refused(fault) => (Some(Ending::Refused(fault)), device),
-        Fetched::Failed => (Some(Ending::Unreadable), device),
-        Fetched::Memory => (None, device),
+        Err(ending) => (ending, device),
     }
 }
 
@@ -252,18 +231,22 @@ pub(crate) fn perform<R: Threads + Wait + Sync, G: SharedGate, S: Source, D: Dri
     ensures { ComesTo (dids_of dids)
         (inside_of S.left S.faults source.old source.new D.medium (D.device_state device) (D.device_state result.1)) command result.0 }
 {
-    let Some(word) = command else {
+    if plain_of(command).is_some() {
+        return perform_plain::<S, D>(alloc, command, source, device, dids);
+    }
+    let Some(command) = command else {
         return (Some(Ending::Usage), device);
     };
-    match word {
-        Command::Run => run_script::<R, G, S, D>(rt, gate, alloc, source, device, dids),
-        Command::Load { count, lanes } => {
-            if lanes {
-                load_in_lanes::<R, G, D>(rt, gate, alloc, count, device, dids)
-            } else {
-                perform_plain::<S, D>(alloc, command, source, device, dids)
-            }
+    match script_for(alloc, command, source, &dids) {
+        Ok(script) => {
+            let Run { lives, device } = live_in_lanes::<R, G, D>(
+                rt, gate, alloc, device, &script, dids,
+            );
+            (
+                made_of(script, lives).map(|made| ended(command, made)),
+                device,
+            )
         }
-        Command::Check => perform_plain::<S, D>(alloc, command, source, device, dids),
+        Err(ending) => (ending, device),
     }
 }

@@ -7,12 +7,12 @@ use Rattle.std.proofs.lemmas.List.{append-nil}
 use Rattle.std.proofs.lemmas.List.Folds.{list_all-append}
 use Rattle.std.proofs.lemmas.List.Sums.{sum_by-cons, sum_by_push}
 use Rattle.flt_config.specs.declared.config.Config.{Config}
-use Rattle.flt_script.specs.declared.step.Step.{Step}
+use Rattle.flt_step.specs.declared.step.Step.{Step}
 use Rattle.flt_script.specs.Behind.{lane_count, has_lane, has_earlier_store, in_last_lane, with_step}
 use Rattle.flt_script.specs.Gives.{given_by}
-use Rattle.flt_script.specs.Part.{PartOf}
+use Rattle.flt_step.specs.Part.{PartOf}
 use Rattle.flt_script.specs.Refusal.{is_step_misplaced}
-use Rattle.flt_script.specs.Step.{is_step_in, is_lane_step, is_store_step, store_lanes, is_lane_in, is_part_in, are_parts_in, steps_of_part, steps_of, lanes_of_part, arm_count, arms_of_part, arms_of, drain_count, drains_of_lane, drains_of_part, drains_of}
+use Rattle.flt_step.specs.Step.{is_step_in, is_lane_step, is_store_step, store_lanes, is_lane_in, is_part_in, are_parts_in, steps_of_part, steps_of, lanes_of_part, arm_count, arms_of_part, arms_of, drain_count, drains_of_lane, drains_of_part, drains_of}
 use Rattle.flt_script.specs.Within.{marks_of}
 use Rattle.flt_script.proofs.Stores.{few_with, few_with_lane}
 

@@ -14,14 +14,14 @@ use Rattle.flt_script.specs.Said.{Line}
 use Rattle.flt_script.specs.Said as line
 use Rattle.flt_script.specs.declared.line.StepLine.{StepLine}
 use Rattle.flt_script.specs.declared.line.StepLine.TheVariants.{Report, Show, Cycle, Tick, Signal, Enable, Request, Save, Post, Drain, Get, Ask, Arming}
-use Rattle.flt_script.specs.declared.step.Step.{Step}
+use Rattle.flt_step.specs.declared.step.Step.{Step}
 use Rattle.flt_script.specs.Behind.{Behind, added, behind, event_count, has_begun, lane_count, has_lane, in_last_lane, with_step, step_of, arms_with, drains_with}
 use Rattle.flt_script.specs.Causes.{arms_written, drains_written}
 use Rattle.flt_script.specs.Counts.{is_step, is_arming, is_drain, is_power, is_event, IsCounted}
 use Rattle.flt_script.specs.Event.{event_held}
 use Rattle.flt_script.specs.Gives.{given_by}
 use Rattle.flt_script.specs.Laws.{AcceptedLinesAreCounted}
-use Rattle.flt_script.specs.Part.{PartOf}
+use Rattle.flt_step.specs.Part.{PartOf}
 use Rattle.flt_script.specs.Refusal.{is_step_misplaced, event_refusal, step_refusal, lane_refusal, end_refusal, refusal}
 use Rattle.flt_script.proofs.Accepted.{length_used, of_accepted_lines}
 use Rattle.flt_script.proofs.Blocks.{same_some, some_of, as_many_lanes, lane_more}

@@ -20,7 +20,7 @@ use Rattle.flt_script.specs.declared.keyword.Keyword.{Keyword}
 use Rattle.flt_script.specs.Said.{Line}
 use Rattle.flt_script.specs.Said as line
 use Rattle.flt_script.specs.declared.line.StepLine.{StepLine}
-use Rattle.flt_script.specs.declared.step.Step.{Step}
+use Rattle.flt_step.specs.declared.step.Step.{Step}
 use Rattle.flt_script.specs.Behind.{Behind, behind, has_begun, has_lane, is_store_taken, step_of}
 use Rattle.flt_script.specs.Causes.{is_strange, is_unknown, line_said, configures, is_set_already, has_wrong_event, is_jump_kept, is_debounce_kept, is_event_kept, is_step_written, is_out_of_range, is_one_too_many, is_misplaced, is_did_unknown, on_line, cause_told}
 use Rattle.flt_script.specs.Event.{jump_held, debounce_held, event_held}
@@ -28,7 +28,7 @@ use Rattle.flt_script.specs.Gives.{◌⇒◌, ◌>>=◌, given_by}
 use Rattle.flt_script.specs.Laws.{FirstCauseIsTold}
 use Rattle.flt_script.specs.Line.{spelling, keywords, keyword_of, line_with, is_comment, by_words, line_of}
 use Rattle.flt_script.specs.Refusal.{setting_refusal, flash_refusal, event_refusal, did_refusal, is_step_misplaced, step_refusal, power_refusal, par_refusal, lane_refusal, end_refusal, refusal, unless_refused, line_behind}
-use Rattle.flt_script.specs.Step.{arm_count, drain_count, is_lane_step, is_store_step}
+use Rattle.flt_step.specs.Step.{arm_count, drain_count, is_lane_step, is_store_step}
 use Rattle.flt_script.specs.Text.{words_of, is_plain, all_plain}
 use Rattle.flt_script.proofs.Kept.{kept}
 use Rattle.flt_script.proofs.StepRead.{IsRead, is_read}

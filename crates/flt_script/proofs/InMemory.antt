@@ -4,12 +4,12 @@ use Rattle.std.specs.Prelude.{map, not, sum_by}
 use Rattle.std.proofs.lemmas.List.{length-map}
 use Rattle.std.proofs.lemmas.List.Sums.{sum_by-cons}
 use Rattle.std.proofs.lemmas.Bool.{not-true}
-use Rattle.flt_script.specs.declared.step.Part.{Part}
-use Rattle.flt_script.specs.declared.step.Step.{Step}
-use Rattle.flt_script.specs.Part.{PartOf, part_of, parts_of}
+use Rattle.flt_step.specs.declared.step.Part.{Part}
+use Rattle.flt_step.specs.declared.step.Step.{Step}
+use Rattle.flt_step.specs.Part.{PartOf, part_of, parts_of}
 use Rattle.flt_script.specs.Behind.{has_earlier_store, in_last_lane}
 use Rattle.flt_script.specs.Next.{with_lane_step}
-use Rattle.flt_script.specs.Step.{is_lane_step, is_store_step, lanes_of}
+use Rattle.flt_step.specs.Step.{is_lane_step, is_store_step, lanes_of}
 use Rattle.flt_script.specs.Within.{marks_of}
 
 -- A life where it lies in memory.

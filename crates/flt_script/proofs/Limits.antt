@@ -12,12 +12,12 @@ use Rattle.flt_script.specs.declared.fault.LineCause.TheVariants as cause
 use Rattle.flt_script.specs.Said.{Line}
 use Rattle.flt_script.specs.Said as line
 use Rattle.flt_script.specs.declared.places.Places.{Places}
-use Rattle.flt_script.specs.declared.step.Step.{Step}
+use Rattle.flt_step.specs.declared.step.Step.{Step}
 use Rattle.flt_script.specs.Behind.{Behind, added, behind, has_begun, has_lane, lane_count, in_last_lane, with_step, step_of}
 use Rattle.flt_script.specs.Gives.{given_by}
 use Rattle.flt_script.specs.Refusal.{is_step_misplaced, setting_refusal, flash_refusal, event_refusal, did_refusal, step_refusal, power_refusal, par_refusal, lane_refusal, end_refusal, refusal}
 use Rattle.flt_script.specs.Script.{lines_behind}
-use Rattle.flt_script.specs.Step.{is_step_in, are_parts_in, steps_of, arm_count, arms_of, drain_count, drains_of}
+use Rattle.flt_step.specs.Step.{is_step_in, are_parts_in, steps_of, arm_count, arms_of, drain_count, drains_of}
 use Rattle.flt_script.specs.Within.{marks_of, IsWithinLimits}
 use Rattle.flt_script.proofs.Accepted.{of_accepted_lines}
 use Rattle.flt_script.proofs.Blocks.{is_block_in, block_steps, block_drains, block_marks, block_with, parts_with, steps_with, arms_with_step, drains_with_step, marks_with, block_with_lane, parts_with_block, steps_with_lane, drains_with_lane, marks_with_lane, steps_with_block, arms_with_block, drains_with_block, marks_with_block}

@@ -10,12 +10,12 @@ use Rattle.std.proofs.lemmas.List.FromFn.{length-range_with_len}
 use Rattle.std.proofs.lemmas.List.Sums.{sum_by-cons, sum_by-append}
 use Rattle.flt_config.specs.Check.{check_of, distinct_behind}
 use Rattle.flt_config.specs.Ranges.{global_settings, plain_settings, jump_settings, threshold_settings, counter_settings, debounce_settings, did_width_settings, did_settings, event_settings, events_settings, ranges_result}
-use Rattle.flt_script.specs.declared.step.Step.{Step}
-use Rattle.flt_script.specs.declared.step.Step.TheVariants as step
+use Rattle.flt_step.specs.declared.step.Step.{Step}
+use Rattle.flt_step.specs.declared.step.Step.TheVariants as step
 use Rattle.flt_script.specs.Laws.{LoadOfFour}
 use Rattle.flt_script.specs.Load.{load_config, next_number, load_number, load_step, load_lane, load_lanes, plain_parts, load_parts, load_life, shown_life}
-use Rattle.flt_script.specs.Part.{PartOf}
-use Rattle.flt_script.specs.Step.{is_step_in, is_lane_step, has_store_step, store_lanes, is_lane_in, is_part_in, are_parts_in, steps_of_part, steps_of, lanes_of_part, lanes_of, arms_of_part, arms_of, drain_count, drains_of_lane, drains_of_part, drains_of}
+use Rattle.flt_step.specs.Part.{PartOf}
+use Rattle.flt_step.specs.Step.{is_step_in, is_lane_step, has_store_step, store_lanes, is_lane_in, is_part_in, are_parts_in, steps_of_part, steps_of, lanes_of_part, lanes_of, arms_of_part, arms_of, drain_count, drains_of_lane, drains_of_part, drains_of}
 use Rattle.flt_script.specs.Within.{marks_of, IsWithinLimits}
 
 pub load_is_accepted : check_of load_config ≡ Ok load_config

@@ -6,11 +6,11 @@ use Rattle.flt_script.specs.declared.fault.LineCause.{LineCause}
 use Rattle.flt_script.specs.declared.fault.LineCause.TheVariants.{Block}
 use Rattle.flt_script.specs.declared.line.StepLine.{StepLine}
 use Rattle.flt_script.specs.Said as line
-use Rattle.flt_script.specs.declared.step.Step.{Step}
+use Rattle.flt_step.specs.declared.step.Step.{Step}
 use Rattle.flt_script.specs.Behind.{Behind, added, in_last_lane, step_of}
 use Rattle.flt_script.specs.Next.{with_line, with_lane_step}
 use Rattle.flt_script.specs.Refusal.{is_step_misplaced, step_refusal, refusal}
-use Rattle.flt_script.specs.Step.{arm_count, drain_count}
+use Rattle.flt_step.specs.Step.{arm_count, drain_count}
 
 -- A step of a line that is read, where there are not too many.
 module _ (w : StepLine) (s : Step) (b : Behind) (read : step_of b.config w ≡ Some s)

@@ -8,7 +8,7 @@ use Rattle.flt_model.specs.declared.call.Report.TheVariants.{Passed, Failed, Pre
 use Rattle.flt_script.specs.declared.keyword.Keyword.TheVariants as keyword
 use Rattle.flt_script.specs.Said as line
 use Rattle.flt_script.specs.declared.line.StepLine.TheVariants as written
-use Rattle.flt_script.specs.declared.step.Step.TheVariants as step
+use Rattle.flt_step.specs.declared.step.Step.TheVariants as step
 use Rattle.flt_script.specs.Laws.{are_bytes, PrintedStepIsReadAgain}
 use Rattle.flt_script.specs.Line.{keyword_of, report_with, two_numbers, line_with, by_words, line_of}
 use Rattle.flt_script.specs.Text.{words_of, is_blank}

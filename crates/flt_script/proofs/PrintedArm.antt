@@ -15,8 +15,9 @@ use Rattle.flt_script.specs.declared.line.StepLine.TheVariants as steps
 use Rattle.flt_script.specs.Behind.{arm_of}
 use Rattle.flt_script.specs.Laws.{EachArmCanBeMade}
 use Rattle.flt_script.specs.Line.{keyword_of, three_numbers, number_and_pattern, line_with, line_of}
-use Rattle.flt_script.specs.Pattern.{pattern_text, pattern_of}
-use Rattle.flt_script.specs.Step.{is_arm_in, arm_text, with_number}
+use Rattle.flt_step.specs.Words.{pattern_text, arm_text, with_number}
+use Rattle.flt_script.specs.Pattern.{pattern_of}
+use Rattle.flt_step.specs.Step.{is_arm_in}
 use Rattle.flt_script.specs.Text.{words_of, is_blank, all_plain}
 use Rattle.flt_script.proofs.PrintedNumber.{few_digits, number-decimal, words_of-decimal, plain_digits, words_of_number, plain_number, with_more}
 use Rattle.flt_script.proofs.Solid.{words_of_one}

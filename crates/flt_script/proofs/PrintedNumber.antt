@@ -10,7 +10,7 @@ use Rattle.flt_script.specs.declared.fault.LineCause.TheVariants.{Form}
 use Rattle.flt_script.specs.declared.keyword.Keyword.{Keyword}
 use Rattle.flt_script.specs.Line.{keyword_of, line_with, is_comment, line_of}
 use Rattle.flt_script.specs.Numeral.{numeral, number}
-use Rattle.flt_script.specs.Step.{with_number}
+use Rattle.flt_step.specs.Words.{with_number}
 use Rattle.flt_script.specs.Text.{words_of, all_plain}
 use Rattle.flt_script.proofs.Solid.{is_solid, solid_is_plain, digits_are_solid, digits_test, words_of_one, words_of_first, plain_first, by_keyword}
 

@@ -7,11 +7,11 @@ use Rattle.std.proofs.lemmas.List.Folds.{list_all-append}
 use Rattle.flt_script.specs.declared.keyword.Keyword.TheVariants as keyword
 use Rattle.flt_script.specs.Said as line
 use Rattle.flt_script.specs.declared.line.StepLine.TheVariants as written
-use Rattle.flt_script.specs.declared.step.Step.TheVariants as step
-use Rattle.flt_script.specs.Bytes.{bytes_of, two_digits, spaced, bytes_text}
+use Rattle.flt_step.specs.declared.step.Step.TheVariants as step
+use Rattle.flt_script.specs.Bytes.{bytes_of}
+use Rattle.flt_step.specs.Words.{two_digits, spaced, bytes_text, step_text}
 use Rattle.flt_script.specs.Laws.{are_bytes}
 use Rattle.flt_script.specs.Line.{keyword_of, post_with, line_with, line_of}
-use Rattle.flt_script.specs.Step.{step_text}
 use Rattle.flt_script.specs.Text.{words_of, is_blank, is_plain, all_plain}
 use Rattle.flt_script.proofs.PrintedNumber.{number-decimal, with_more}
 use Rattle.flt_script.proofs.PrintedRequest.{digits_are_solid, words_of-spaced, plain-spaced, length-spaced, each-two_digits}

@@ -11,12 +11,12 @@ use Rattle.std.proofs.lemmas.List.Folds.{list_all-append}
 use Rattle.flt_script.specs.declared.keyword.Keyword.TheVariants as keyword
 use Rattle.flt_script.specs.Said as line
 use Rattle.flt_script.specs.declared.line.StepLine.TheVariants as written
-use Rattle.flt_script.specs.declared.step.Step.TheVariants as step
-use Rattle.flt_script.specs.Bytes.{tester_of, letter_of, each, bytes_of, two_digits, spaced}
+use Rattle.flt_step.specs.declared.step.Step.TheVariants as step
+use Rattle.flt_script.specs.Bytes.{tester_of, each, bytes_of}
+use Rattle.flt_step.specs.Words.{letter_of, two_digits, spaced, step_text}
 use Rattle.flt_script.specs.Laws.{are_bytes}
 use Rattle.flt_script.specs.Line.{keyword_of, line_with, request_with, line_of}
 use Rattle.flt_script.specs.Numeral.{numeral, hexadecimal}
-use Rattle.flt_script.specs.Step.{step_text}
 use Rattle.flt_script.specs.Text.{words_of, is_blank, is_plain, all_plain}
 use Rattle.flt_script.proofs.Solid.{is_solid, solid_is_plain, words_of_one, words_of_first, by_keyword}
 

@@ -9,7 +9,7 @@ use Rattle.flt_script.specs.Said as line
 use Rattle.flt_script.specs.Laws.{did_text, WrittenSettingsAreRead}
 use Rattle.flt_script.specs.Line.{keyword_of, two_numbers, did_with, line_with, line_of}
 use Rattle.flt_script.specs.Numeral.{numeral, hexadecimal}
-use Rattle.flt_script.specs.Step.{with_number, with_two_numbers}
+use Rattle.flt_step.specs.Words.{with_number, with_two_numbers}
 use Rattle.flt_script.specs.Text.{is_blank}
 use Rattle.flt_script.proofs.PrintedNumber.{few_digits, number-decimal, words_of-decimal, plain_digits, with_one, with_more}
 use Rattle.flt_script.proofs.PrintedRequest.{glyph_is_solid, glyph_value}

@@ -7,12 +7,12 @@ use Rattle.flt_flash.specs.declared.arm.Arm.TheVariants as arm
 use Rattle.flt_script.specs.declared.arm.ArmLine.TheVariants.{Cut, Fault, Mute}
 use Rattle.flt_script.specs.declared.line.StepLine.{StepLine}
 use Rattle.flt_script.specs.declared.line.StepLine.TheVariants.{Report, Show, Cycle, Tick, Signal, Enable, Request, Save, Post, Drain, Get, Ask, Arming}
-use Rattle.flt_script.specs.declared.step.Step.{Step}
-use Rattle.flt_script.specs.declared.step.Step.TheVariants as step
+use Rattle.flt_step.specs.declared.step.Step.{Step}
+use Rattle.flt_step.specs.declared.step.Step.TheVariants as step
 use Rattle.flt_script.specs.Behind.{arm_of, step_of}
 use Rattle.flt_script.specs.Causes.{is_step_written, arms_written, drains_written, is_for_no_lane, is_for_one_lane}
 use Rattle.flt_script.specs.Gives.{◌⇒◌, given_by}
-use Rattle.flt_script.specs.Step.{is_step_in, is_lane_step, is_store_step, arm_count, drain_count}
+use Rattle.flt_step.specs.Step.{is_step_in, is_lane_step, is_store_step, arm_count, drain_count}
 use Rattle.flt_script.proofs.Kept.{kept}
 
 -- A step is as its line says.

@@ -6,12 +6,12 @@ use Rattle.std.proofs.lemmas.List.Folds.{list_any-append}
 use Rattle.std.proofs.lemmas.List.Sums.{sum_by-cons, sum_by_push}
 use Rattle.std.proofs.lemmas.Bool.{or_parts}
 use Rattle.std.proofs.Math.Bool.{or-true, or-false, or_comm, or_assoc}
-use Rattle.flt_script.specs.declared.step.Step.{Step}
+use Rattle.flt_step.specs.declared.step.Step.{Step}
 use Rattle.flt_script.specs.Behind.{in_last_lane, has_earlier_store, is_store_used, is_store_taken}
 use Rattle.flt_script.specs.Gives.{given_by}
 use Rattle.flt_script.specs.Next.{with_lane_step}
 use Rattle.flt_script.specs.Refusal.{is_step_misplaced}
-use Rattle.flt_script.specs.Step.{is_store_step, has_store_step, store_lanes}
+use Rattle.flt_step.specs.Step.{is_store_step, has_store_step, store_lanes}
 
 or_swap : (a b c : Bool) → (a || (b || c)) ≡ (b || (a || c))
 or_swap true b c = sym (or-true b)

@@ -15,13 +15,13 @@ use Rattle.flt_script.specs.declared.line.StepLine.TheVariants.{Report, Show, Cy
 use Rattle.flt_script.specs.Said.{Line}
 use Rattle.flt_script.specs.Said as line
 use Rattle.flt_script.specs.declared.places.Places.{Places}
-use Rattle.flt_script.specs.declared.step.Step.{Step}
-use Rattle.flt_script.specs.declared.step.Step.TheVariants as step
+use Rattle.flt_step.specs.declared.step.Step.{Step}
+use Rattle.flt_step.specs.declared.step.Step.TheVariants as step
 use Rattle.flt_script.specs.Event.{event_held}
 use Rattle.flt_script.specs.Gives.{◌⇒◌, given_by}
 use Rattle.flt_script.specs.Numeral.{below, up_to, from_to}
-use Rattle.flt_script.specs.Part.{PartOf}
-use Rattle.flt_script.specs.Step.{arm_count, drain_count, has_store_step}
+use Rattle.flt_step.specs.Part.{PartOf}
+use Rattle.flt_step.specs.Step.{arm_count, drain_count, has_store_step}
 
 -- All that the rules for the next line look at: what is configured and by which lines, the lives that were ended, the
 -- parts of the life under way, the lanes of the block under way, if there is one, and how many steps, how many of cut, fault

@@ -1,5 +1,5 @@
--- How a refusal is printed.
-use Rattle.std.specs.Prelude.{ℕ, List, ◌∷◌, ◌++◌, codes}
+-- How a refusal is printed, and the lines that tell why there is no script.
+use Rattle.std.specs.Prelude.{ℕ, List, [], ◌∷◌, ◌++◌, codes}
 use Rattle.std.specs.Fmt.{decimal}
 use Rattle.flt_config.specs.declared.config.CfgFault.TheVariants.{DtcTwice, NoRoom}
 use Rattle.flt_config.specs.declared.config.CfgFault.TheVariants as faults
@@ -8,7 +8,7 @@ use Rattle.flt_script.specs.declared.fault.LineCause.TheVariants.{Large, Long, B
 use Rattle.flt_script.specs.declared.fault.ParseFault.{ParseFault}
 use Rattle.flt_script.specs.declared.fault.ParseFault.TheVariants.{Memory, At}
 use Rattle.flt_script.specs.declared.fault.ScriptFault.{ScriptFault}
-use Rattle.flt_script.specs.Step.{with_two_numbers}
+use Rattle.flt_step.specs.Words.{with_two_numbers}
 
 -- The cause in a word, and the events of one DTC, or the pages that are needed and those that are used.
 abbrev pub cause_text : LineCause → List ℕ
@@ -34,3 +34,11 @@ script_fault_text fault = codes "script line " ++ decimal fault.line ++ 32 ∷ c
 abbrev pub parse_fault_text : ParseFault → List ℕ
 parse_fault_text Memory = codes "out of memory"
 parse_fault_text (At fault) = script_fault_text fault
+
+-- The line that tells why bytes are no script.
+abbrev pub script_fault_line : ScriptFault → List ℕ
+script_fault_line fault = script_fault_text fault ++ 10 ∷ []
+
+-- The line that tells that the source of a script failed.
+abbrev pub unread_line : List ℕ
+unread_line = codes "read fault" ++ 10 ∷ []

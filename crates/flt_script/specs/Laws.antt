@@ -13,10 +13,10 @@ use Rattle.flt_script.specs.declared.line.StepLine.{StepLine}
 use Rattle.flt_script.specs.Said.{Line}
 use Rattle.flt_script.specs.Said as line
 use Rattle.flt_script.specs.declared.pair.Key.TheVariants.{Dtc, Count, JumpUp, JumpDown, Time}
-use Rattle.flt_script.specs.declared.step.Step.{Step}
-use Rattle.flt_script.specs.declared.step.Step.TheVariants as step
+use Rattle.flt_step.specs.declared.step.Step.{Step}
+use Rattle.flt_step.specs.declared.step.Step.TheVariants as step
 use Rattle.flt_script.specs.Behind.{behind, step_of}
-use Rattle.flt_script.specs.Bytes.{two_digits}
+use Rattle.flt_step.specs.Words.{two_digits, with_number, with_two_numbers, step_text}
 use Rattle.flt_script.specs.Causes.{causes, holds, cause_told}
 use Rattle.flt_script.specs.Counts.{IsCounted}
 use Rattle.flt_script.specs.Event.{stands, event_of}
@@ -25,7 +25,7 @@ use Rattle.flt_script.specs.Load.{load_number, load_lanes}
 use Rattle.flt_script.specs.Pair.{any_twice}
 use Rattle.flt_script.specs.Refusal.{line_behind}
 use Rattle.flt_script.specs.Script.{ScriptContent, lines_behind, script_of}
-use Rattle.flt_script.specs.Step.{is_step_in, with_number, with_two_numbers, step_text}
+use Rattle.flt_step.specs.Step.{is_step_in}
 
 -- These bytes are this script.
 abbrev pub IsScript : List DidUse → List ℕ → ScriptContent → Type 0

@@ -3,29 +3,18 @@ use Rattle.std.specs.Prelude.{ℕ, zero, suc, ◌+◌, ◌*◌, ◌/◌, ◌%◌
 use Rattle.std.proofs.Common.{inl, inr}
 use Rattle.std.specs.List.{flat_map, range_with_len}
 use Rattle.flt_config.specs.declared.config.Config.{Config}
-use Rattle.flt_config.specs.declared.config.Debounce.TheVariants.{Counter}
 use Rattle.flt_config.specs.declared.config.EventCfg.{EventCfg}
+use Rattle.flt_config.specs.Plain.{plain_event}
 use Rattle.flt_model.specs.declared.call.Report.{Report}
 use Rattle.flt_model.specs.declared.call.Report.TheVariants.{Passed, Failed, PrePassed, PreFailed}
-use Rattle.flt_script.specs.declared.step.Step.{Step}
-use Rattle.flt_script.specs.declared.step.Step.TheVariants as step
-use Rattle.flt_script.specs.Part.{PartOf}
+use Rattle.flt_step.specs.declared.step.Step.{Step}
+use Rattle.flt_step.specs.declared.step.Step.TheVariants as step
+use Rattle.flt_step.specs.Part.{PartOf}
 use Rattle.flt_script.specs.Script.{ScriptContent}
 
 -- The event of this number, with its DTC and the defaults of an event line.
 abbrev pub load_event : ℕ → EventCfg
-load_event number = record {
-  dtc = 0x000100 + number;
-  priority = 1;
-  cycle = 0;
-  confirm = 1;
-  heal = 3;
-  age = 40;
-  indicator = false;
-  needs = 0;
-  debounce = Counter (pos 1) (negsuc 0) (pos 1) (pos 1) None None;
-  dids = record { items = [] };
-}
+load_event number = plain_event (0x000100 + number)
 
 -- The configuration: 16 events, and no application block.
 unfoldable pub load_config : Config

@@ -12,11 +12,11 @@ use Rattle.flt_script.specs.declared.keyword.Keyword.{Keyword}
 use Rattle.flt_script.specs.declared.keyword.Keyword.TheVariants as keyword
 use Rattle.flt_script.specs.Said.{Line}
 use Rattle.flt_script.specs.Said as line
-use Rattle.flt_script.specs.declared.step.Step.{Step}
+use Rattle.flt_step.specs.declared.step.Step.{Step}
 use Rattle.flt_script.specs.Behind.{Behind, added, in_last_lane}
 use Rattle.flt_script.specs.Gives.{◌>>=◌}
 use Rattle.flt_script.specs.Line.{line_with, line_of}
-use Rattle.flt_script.specs.Part.{parts_of}
+use Rattle.flt_step.specs.Part.{parts_of}
 use Rattle.flt_script.specs.Refusal.{refusal, unless_refused, is_step_misplaced}
 
 -- The keyword begins a step.

@@ -9,12 +9,12 @@ use Rattle.flt_script.specs.declared.event.EventLine.{EventLine}
 use Rattle.flt_script.specs.declared.line.StepLine.{StepLine}
 use Rattle.flt_script.specs.Said.{Line}
 use Rattle.flt_script.specs.Said as line
-use Rattle.flt_script.specs.declared.step.Step.{Step}
+use Rattle.flt_step.specs.declared.step.Step.{Step}
 use Rattle.flt_script.specs.Behind.{Behind, behind, event_count, has_begun, lane_count, has_lane, has_earlier_store, uses_of, step_of, arms_with, drains_with}
 use Rattle.flt_script.specs.Event.{event_held}
 use Rattle.flt_script.specs.Gives.{◌>>=◌, given_by}
 use Rattle.flt_script.specs.Line.{line_of}
-use Rattle.flt_script.specs.Step.{is_lane_step, is_store_step}
+use Rattle.flt_step.specs.Step.{is_lane_step, is_store_step}
 
 -- The cause of the first test that holds.
 abbrev pub first_cause : List (Bool × LineCause) → Option LineCause

@@ -2,9 +2,9 @@
 use Rattle.std.specs.Prelude.{ℕ, ◌+◌, ◌≤◌, List, length, IsTrue, sum_by}
 use Rattle.std.specs.List.{list_all}
 use Rattle.flt_config.specs.declared.config.Config.{Config}
-use Rattle.flt_script.specs.declared.step.Step.{Step}
-use Rattle.flt_script.specs.Part.{PartOf}
-use Rattle.flt_script.specs.Step.{are_parts_in, steps_of, lanes_of, arms_of, drains_of}
+use Rattle.flt_step.specs.declared.step.Step.{Step}
+use Rattle.flt_step.specs.Part.{PartOf}
+use Rattle.flt_step.specs.Step.{are_parts_in, steps_of, lanes_of, arms_of, drains_of}
 
 -- How many lines parts have at least: each step and each block one, and each lane one.
 abbrev pub marks_of : List (PartOf Step) → ℕ

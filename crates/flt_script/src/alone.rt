@@ -4,9 +4,9 @@ ghost use Rattle.flt_script.specs.Alone.{step_in};
 ghost use Rattle.flt_script.specs.Text.{lines_of};
 
 use crate::line::{first_word, step_with};
-use crate::step::Step;
 use crate::text::{TextLine, split_line};
 use flt_config::Config;
+use flt_step::Step;
 
 /// The first line of a text, without what ends it, and what stands behind it; nothing where the text has no line.
 pub fn next_line(text: &[u8]) -> Option<(&[u8], &[u8])>

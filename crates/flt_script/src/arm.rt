@@ -1,10 +1,11 @@
 ghost use Rattle.std.specs.Prelude.{◌≡◌, IfSome, IsTrue};
 ghost use Rattle.flt_script.specs.Behind.{arm_of};
-ghost use Rattle.flt_script.specs.Pattern.{pattern_text, pattern_of};
-ghost use Rattle.flt_script.specs.Step.{is_arm_in};
+ghost use Rattle.flt_step.specs.Words.{pattern_text};
+ghost use Rattle.flt_script.specs.Pattern.{pattern_of};
+ghost use Rattle.flt_step.specs.Step.{is_arm_in};
 
 use flt_flash::{Arm, Pattern};
-use std::fmt;
+use flt_step::pattern_word;
 
 /// A fault to be armed, with its numbers as they are written.
 #[derive(Clone, Copy)]
@@ -57,17 +58,6 @@ impl ArmLine {
 
 const PATTERNS: [Pattern; 4] = [Pattern::Nothing, Pattern::All, Pattern::Tail, Pattern::Odd];
 
-fn word_of(pattern: Pattern) -> &'static str
-    ensures { result.now ≡ pattern_text pattern }
-{
-    match pattern {
-        Pattern::Nothing => "none",
-        Pattern::All => "all",
-        Pattern::Tail => "tail",
-        Pattern::Odd => "odd",
-    }
-}
-
 /// The pattern that a word spells.
 #[tactic(auto, unfolding(crate::specs::Pattern::pattern_of))]
 pub(crate) fn read_pattern(word: &[u8]) -> Option<Pattern>
@@ -76,34 +66,5 @@ pub(crate) fn read_pattern(word: &[u8]) -> Option<Pattern>
     PATTERNS
         .iter()
         .copied()
-        .find(|pattern| word == word_of(*pattern).as_bytes())
-}
-
-/// A fault to be armed, which is printed as the words of its line.
-#[derive(Clone, Copy)]
-pub(crate) struct ArmWords(pub(crate) Arm);
-
-impl fmt::Display for ArmWords {
-    ghost use Rattle.std.specs.Prelude.{Some};
-    ghost use Rattle.flt_script.specs.Step.{arm_text};
-
-    ghost output = { λ arm. Some (arm_text arm.0) };
-
-    fn fmt<W: fmt::Write>(&self, f: &mut fmt::Formatter<W>) -> fmt::Result {
-        match self.0 {
-            Arm::Cut { after, pattern } => {
-                let pattern = word_of(pattern);
-                write!(f, "cut {after} {pattern}")
-            }
-            Arm::Fault { after, pattern } => {
-                let pattern = word_of(pattern);
-                write!(f, "fault {after} {pattern}")
-            }
-            Arm::Mute {
-                sector,
-                page,
-                times,
-            } => write!(f, "mute {sector} {page} {times}"),
-        }
-    }
+        .find(|pattern| word == pattern_word(*pattern).as_bytes())
 }

@@ -1,11 +1,11 @@
 ghost use Rattle.std.specs.Prelude.{◌≡◌, map};
 ghost use Rattle.std.specs.List.{list_any};
 ghost use Rattle.flt_script.specs.Behind.{has_earlier_store};
-ghost use Rattle.flt_script.specs.Step.{has_store_step};
+ghost use Rattle.flt_step.specs.Step.{has_store_step};
 
 use crate::fault::LineFault;
 use crate::lane::add_lane_step;
-use crate::step::Step;
+use flt_step::Step;
 use std::alloc::{AllocError, Global};
 
 /// The block under way.

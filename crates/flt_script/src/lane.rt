@@ -2,10 +2,10 @@ ghost use Rattle.std.specs.Prelude.{◌≡◌, ◌&&◌, ◌||◌, OnErr, map, n
 ghost use Rattle.flt_script.specs.Behind.{has_earlier_store};
 ghost use Rattle.flt_script.specs.Gives.{IsAsDefined};
 ghost use Rattle.flt_script.specs.Next.{cause_of, with_lane_step};
-ghost use Rattle.flt_script.specs.Step.{is_lane_step, is_store_step};
+ghost use Rattle.flt_step.specs.Step.{is_lane_step, is_store_step};
 
 use crate::fault::{LineCause, LineFault};
-use crate::step::Step;
+use flt_step::Step;
 
 /// Adds a step to the last lane of a block, with whether a lane before it has a `save`, `drain` or `get`.
 pub(crate) fn add_lane_step(

@@ -1,14 +1,15 @@
 //! The script of a run: what is configured, and what is done.
 //!
-//! Stands on `flt_config`, whose check of a configuration ends the reading, on `flt_did`, whose table has the data
-//! identifiers that events may use, on `flt_model`, which declares the reports and bounds a request, and on `flt_flash`,
-//! which declares the faults that a step arms. The layer above calls `parse`: by its clause `exact` it answers, for all
+//! Stands on `flt_io` for the source of a script and the sink of its fault, on `flt_config`, whose check of a configuration ends the
+//! reading, on `flt_did`, whose table has the data identifiers that events may use, and on `flt_step`, whose steps and parts a script
+//! has. The layer above calls `fetch`, which reads the script of a source, or `parse`: by its clause `exact` it answers, for all
 //! bytes, the script or the first fault that the definition `script_of` gives; by `served` the table has what the events
 //! use; and the type `Script` keeps what the steps have in common. `load` makes the script of a load, which no text spells.
-//! `read_step` reads one step by itself, and `next_line` takes the first line off a text.
-//! Read `specs/Text` first, then `specs/Said` and `specs/Line` (a line by itself), `specs/Part` (a step or a block of lanes), `specs/Behind`
-//! (what the lines before a line gave), `specs/Refusal` (a line against those), `specs/Script` (the whole) and `specs/Load`;
-//! `docs/SCRIPT.md` tells the language in plain words.
+//! `write_unread` and `write_script_fault` write why there is no script. `read_step` reads one step by itself, `next_line` takes
+//! the first line off a text, and `place_of_feed` and `without_return` find where one ends.
+//! Read `specs/Text` first, then `specs/Said` and `specs/Line` (a line by itself), `specs/Behind`
+//! (what the lines before a line gave), `specs/Refusal` (a line against those), `specs/Script` (the whole), `specs/Fetched` (the script
+//! of a source) and `specs/Load`; `docs/SCRIPT.md` tells the language in plain words.
 #![tactic(auto)]
 
 mod alone;
@@ -19,6 +20,7 @@ mod did;
 mod draft;
 mod event;
 mod fault;
+mod fetching;
 mod keyword;
 mod lane;
 pub mod laws;
@@ -28,17 +30,16 @@ mod numeral;
 mod pair;
 mod parsing;
 mod places;
+mod refusing;
 mod script;
-mod step;
 mod text;
 
 pub use alone::{next_line, read_step};
-pub use bytes::{HexByte, HexBytes};
 pub use fault::{LineCause, ParseFault, ScriptFault};
-pub use flt_flash::{Arm, Pattern};
-pub use flt_model::Report;
+pub use fetching::{Fetched, fetch};
 pub use loading::load;
 pub use numeral::read_number;
 pub use parsing::parse;
+pub use refusing::{put_script_fault, write_script_fault, write_unread};
 pub use script::Script;
-pub use step::{BLOCK_BYTES, Part, Step};
+pub use text::{place_of_feed, without_return};

@@ -8,7 +8,7 @@ ghost use Rattle.flt_script.specs.Event.{only, event_of};
 ghost use Rattle.flt_script.specs.Line.{two_numbers, three_numbers, number_and_pattern, alone, did_with, request_with, post_with, line_with, line_of};
 ghost use Rattle.flt_script.specs.Next.{begins_step, said_behind};
 ghost use Rattle.flt_script.specs.Numeral.{number};
-ghost use Rattle.flt_script.specs.Step.{is_step_in};
+ghost use Rattle.flt_step.specs.Step.{is_step_in};
 
 use crate::arm::{ArmLine, read_pattern};
 use crate::bytes::read_bytes;
@@ -16,13 +16,16 @@ use crate::event::{EventLine, event_of};
 use crate::fault::LineCause;
 use crate::keyword::{Keyword, read_keyword};
 use crate::numeral::{read_hexadecimal, read_number};
-use crate::step::{BLOCK_BYTES, LAST_TESTER, Step};
 use crate::text::{TextLine, Words};
 use arrayvec::ArrayVec;
 use flt_config::Config;
 use flt_flash::Pattern;
 use flt_model::{REQUEST, Report};
+use flt_step::{BLOCK_BYTES, Step};
 use std::alloc::{AllocError, Global};
+
+/// The number of the last tester, D.
+const LAST_TESTER: u8 = 3;
 
 /// A step, with its numbers as they are written.
 #[derive(Drop)]

@@ -1,14 +1,14 @@
 ghost use Rattle.std.specs.Prelude.{◌≡◌, ◌<◌, ◌≤◌, ◌++◌, IfOk, OnOk, map};
 ghost use Rattle.std.specs.List.{flat_map};
 ghost use Rattle.flt_script.specs.Load.{load_event, load_config, plain_parts, next_number, load_report, load_step, load_lane, load_lanes, load_life, shown_life, load_script};
-ghost use Rattle.flt_script.specs.Part.{parts_of};
+ghost use Rattle.flt_step.specs.Part.{parts_of};
 ghost use Rattle.flt_script.specs.Script.{content};
 
 use crate::script::Script;
-use crate::step::{Part, Step};
 use arrayvec::ArrayVec;
-use flt_config::{Config, Debounce, EventCfg, check};
+use flt_config::{Config, EventCfg, check};
 use flt_model::Report;
+use flt_step::{Part, Step};
 use std::alloc::{AllocError, Global};
 
 /// How many events a load reports on, of which each lane has four.
@@ -41,18 +41,7 @@ fn load_event(number: u16) -> EventCfg
     requires { number < 16 }
     ensures { result ≡ load_event number }
 {
-    EventCfg {
-        dtc: FIRST_DTC + u32::from(number),
-        priority: 1,
-        cycle: 0,
-        confirm: 1,
-        heal: 3,
-        age: 40,
-        indicator: false,
-        needs: 0,
-        debounce: Debounce::default(),
-        dids: ArrayVec::new(),
-    }
+    EventCfg::new(FIRST_DTC + u32::from(number))
 }
 
 #[tactic(auto, unfolding(crate::specs::Load::load_config))]

@@ -1,10 +1,10 @@
 ghost use Rattle.std.specs.Prelude.{◌+◌, ◌<◌, ◌≤◌, IsTrue, length, sum_by, vec_len};
 ghost use Rattle.std.specs.List.{list_all};
-ghost use Rattle.flt_script.specs.Part.{parts_of};
-ghost use Rattle.flt_script.specs.Step.{are_parts_in, steps_of, lanes_of, arms_of, drains_of};
+ghost use Rattle.flt_step.specs.Part.{parts_of};
+ghost use Rattle.flt_step.specs.Step.{are_parts_in, steps_of, lanes_of, arms_of, drains_of};
 
-use crate::step::Part;
 use flt_config::ValidConfig;
+use flt_step::Part;
 
 /// What is configured, and what is done: a script that `parse` accepted, or that `load` made.
 #[derive(Drop)]

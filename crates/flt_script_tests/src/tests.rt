@@ -1,5 +1,8 @@
 use flt_did::{DID_ROWS, DidTable, did_0101, did_0103, did_0107};
+use flt_flash::{Arm, Pattern};
+use flt_model::Report;
 use flt_script::*;
+use flt_step::{BLOCK_BYTES, Part, Step, put_words};
 use std::alloc::{AllocError, Global};
 use std::process::Abort;
 use std::test::Fail;
@@ -13,6 +16,7 @@ mod lines;
 mod loads;
 mod possible;
 mod room;
+mod worked;
 
 /// A table with three data identifiers, of 2, 1 and 8 bytes.
 fn table() -> DidTable<DID_ROWS> {
@@ -23,9 +27,11 @@ fn table() -> DidTable<DID_ROWS> {
     table
 }
 
-/// Puts a step as it prints, with a full stop behind it.
+/// Puts the words of a step, with a full stop behind them.
 fn put_step(text: &mut String, alloc: Global, step: &Step) -> Result<(), AllocError> {
-    text.push_str(step.to_string(alloc)?.as_str())?;
+    let mut words = Vec::new(alloc);
+    put_words(step, &mut words)?;
+    text.push_str(str::from_utf8(&words).unwrap_or("?"))?;
     text.push_str(".")
 }
 

@@ -10,12 +10,12 @@ use Rattle.flt_flash.specs.declared.blocks.Blocks.{Ghosts}
 use Rattle.flt_config.specs.declared.config.Config.{Config}
 use Rattle.flt_nvm.specs.declared.got.Got.TheVariants.{Bytes, Missing}
 use Rattle.flt_nvm.specs.Leaves.{IsEither, GotOf}
-use Rattle.flt_generation.specs.declared.commit.Commit.{Commit}
-use Rattle.flt_generation.specs.Layout.{mark_number, application_number, applications}
-use Rattle.flt_generation.specs.Excess.{own_pages, IsBorne}
-use Rattle.flt_generation.specs.Holding.{Generation, MarkAllows, is_application}
-use Rattle.flt_generation.proofs.Pages.{applications_of}
-use Rattle.flt_generation.proofs.Choices.{chosen}
+use Rattle.flt_store_model.specs.declared.commit.Commit.{Commit}
+use Rattle.flt_store_model.specs.Layout.{mark_number, application_number, applications}
+use Rattle.flt_store_model.specs.Excess.{own_pages, IsBorne}
+use Rattle.flt_store_model.specs.Holding.{Generation, MarkAllows, is_application}
+use Rattle.flt_store_model.proofs.Pages.{applications_of}
+use Rattle.flt_store_model.proofs.Choices.{chosen}
 use Rattle.flt_store.specs.Cause.{IsWithinOwn}
 use Rattle.flt_store.specs.Started.{IsStarted}
 use Rattle.flt_store.specs.declared.store.Store.{Store}

@@ -14,12 +14,12 @@ use Rattle.flt_nvm.specs.Driver.{driver_of}
 use Rattle.flt_config.specs.declared.config.Config.{Config}
 use Rattle.flt_config.specs.declared.persist.Persist.{Persist}
 use Rattle.flt_config.specs.Durable.{Fits}
-use Rattle.flt_generation.specs.Layout.{commit_id, number_of, mark_number, first_commit, second_commit}
-use Rattle.flt_generation.specs.Excess.{IsBorne}
-use Rattle.flt_generation.specs.Laws.{IsGiven}
-use Rattle.flt_generation.specs.Holding.{Generation, Fault, Holds, IsSound, MarkAllows, OldOrNew, SameApplications, either_copy, only_bytes, held, spare}
+use Rattle.flt_store_model.specs.Layout.{commit_id, number_of, mark_number, first_commit, second_commit}
+use Rattle.flt_store_model.specs.Excess.{IsBorne}
+use Rattle.flt_store_model.specs.Laws.{IsGiven}
+use Rattle.flt_store_model.specs.Holding.{Generation, Fault, Holds, IsSound, MarkAllows, OldOrNew, SameApplications, either_copy, only_bytes, held, spare}
 use Rattle.flt_config.proofs.InitialFits.{initial_fits}
-use Rattle.flt_generation.proofs.ImageLaws.{held_stands, spare_stands}
+use Rattle.flt_store_model.proofs.ImageLaws.{held_stands, spare_stands}
 use Rattle.flt_restore.specs.declared.commit.CommitCopy.{CommitCopy}
 use Rattle.flt_restore.specs.Restored.{HasBytes, IsJudged, IsCopy, IsRestored, generation}
 use Rattle.flt_store.specs.Started.{HasMark, IsStarted}

@@ -13,11 +13,11 @@ use Rattle.flt_flash.proofs.CallsInARow.{no_call, more_calls}
 use Rattle.flt_config.specs.declared.config.Config.{Config}
 use Rattle.flt_nvm.specs.Table.{number_of}
 use Rattle.flt_nvm.specs.Leaves.{FlashTakesThree, Gives, GivesBoth}
-use Rattle.flt_generation.specs.Layout.{numbers, commit_id, first_commit, second_commit}
-use Rattle.flt_generation.specs.Excess.{own_pages, excess, IsBorne}
-use Rattle.flt_generation.specs.Laws.{IsGiven}
-use Rattle.flt_generation.proofs.Pages.{borne_has_room}
-use Rattle.flt_generation.specs.Form.{commit_length}
+use Rattle.flt_store_model.specs.Layout.{numbers, commit_id, first_commit, second_commit}
+use Rattle.flt_store_model.specs.Excess.{own_pages, excess, IsBorne}
+use Rattle.flt_store_model.specs.Laws.{IsGiven}
+use Rattle.flt_store_model.proofs.Pages.{borne_has_room}
+use Rattle.flt_store_model.specs.Form.{commit_length}
 use Rattle.flt_store.specs.Cause.{FailsThrice, HasRoom, IsWithinOwn, Writes}
 
 -- No write, and some writes and then more.

@@ -9,15 +9,15 @@ use Rattle.flt_flash.specs.Content.{Content}
 use Rattle.flt_flash.specs.Blocks.{record_pages}
 use Rattle.flt_config.specs.declared.config.Config.{Config}
 use Rattle.flt_config.specs.declared.persist.Persist.{Persist}
-use Rattle.flt_generation.specs.declared.commit.Commit.{Commit}
-use Rattle.flt_generation.specs.Layout.{first_part, parts, is_used, index_in, part_of}
-use Rattle.flt_generation.specs.Form.{block_bytes}
-use Rattle.flt_generation.specs.Reading.{commit_in}
-use Rattle.flt_generation.specs.Holding.{Generation}
-use Rattle.flt_generation.specs.Successor.{number_in, IsNext, KeepsIndices, is_written, pages_changed, changed_pages}
-use Rattle.flt_generation.proofs.Choices.{chosen, not_chosen}
-use Rattle.flt_generation.proofs.Commits.{commit_read}
-use Rattle.flt_generation.proofs.Pages.{used_range}
+use Rattle.flt_store_model.specs.declared.commit.Commit.{Commit}
+use Rattle.flt_store_model.specs.Layout.{first_part, parts, is_used, index_in, part_of}
+use Rattle.flt_store_model.specs.Form.{block_bytes}
+use Rattle.flt_store_model.specs.Reading.{commit_in}
+use Rattle.flt_store_model.specs.Holding.{Generation}
+use Rattle.flt_store_model.specs.Successor.{number_in, IsNext, KeepsIndices, is_written, pages_changed, changed_pages}
+use Rattle.flt_store_model.proofs.Choices.{chosen, not_chosen}
+use Rattle.flt_store_model.proofs.Commits.{commit_read}
+use Rattle.flt_store_model.proofs.Pages.{used_range}
 use Rattle.flt_image.specs.Blocks.{AreBlocksOf}
 use Rattle.flt_store.specs.Cost.{written_sum, pages_to_write}
 use Rattle.flt_store.specs.Keeping.{HasCommit, KeepsFrom, StandAtZero}

@@ -1,7 +1,7 @@
 -- A call that met none of the causes of its errors answers Ok.
 use Rattle.std.proofs.Common.{◌≡◌, Result, Ok, Err, ⊎_elim, ap, refl}
 use Rattle.std.specs.Prelude.{◌⊎◌, ◌≢◌, IsOk, IsErrOf}
-use Rattle.flt_generation.specs.Holding.{Generation, last_number}
+use Rattle.flt_store_model.specs.Holding.{Generation, last_number}
 use Rattle.flt_store.specs.declared.fault.SaveFault.{SaveFault}
 use Rattle.flt_store.specs.declared.fault.SaveFault.TheVariants as saving
 use Rattle.flt_store.specs.declared.fault.PutFault.{PutFault}

@@ -9,11 +9,11 @@ use Rattle.flt_flash.specs.declared.blocks.Found.TheVariants.{Bytes as FoundByte
 use Rattle.flt_config.specs.declared.config.Config.{Config}
 use Rattle.flt_nvm.specs.declared.got.Got.TheVariants.{Bytes, Missing, Invalid}
 use Rattle.flt_nvm.specs.Leaves.{HasNoBytes, IsEither, GotOf, GotOfBoth}
-use Rattle.flt_generation.specs.declared.commit.Commit.{Commit}
-use Rattle.flt_generation.specs.Layout.{commit_id, number_of, first_commit, second_commit}
-use Rattle.flt_generation.specs.Reading.{commit_in}
-use Rattle.flt_generation.specs.Excess.{IsBorne}
-use Rattle.flt_generation.specs.Holding.{Generation, Holds, IsSound, OldOrNew}
+use Rattle.flt_store_model.specs.declared.commit.Commit.{Commit}
+use Rattle.flt_store_model.specs.Layout.{commit_id, number_of, first_commit, second_commit}
+use Rattle.flt_store_model.specs.Reading.{commit_in}
+use Rattle.flt_store_model.specs.Excess.{IsBorne}
+use Rattle.flt_store_model.specs.Holding.{Generation, Holds, IsSound, OldOrNew}
 use Rattle.flt_store.specs.Cause.{FailsThrice, IsWithinOwn}
 use Rattle.flt_store.specs.Keeping.{IsOfFirst}
 use Rattle.flt_store.specs.Started.{IsStarted, StartsEither, AgreeButForCommit}

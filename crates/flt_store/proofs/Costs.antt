@@ -13,12 +13,12 @@ use Rattle.flt_flash.proofs.CallsInARow.{more_calls}
 use Rattle.flt_config.specs.declared.config.Config.{Config}
 use Rattle.flt_nvm.specs.Tries.{Tries, Changing}
 use Rattle.flt_nvm.specs.Leaves.{GivesInAJob, GivesInTwoJobs}
-use Rattle.flt_generation.specs.declared.commit.Commit.{Commit}
-use Rattle.flt_generation.specs.Layout.{first_part, parts, is_used, used_ids}
-use Rattle.flt_generation.specs.Laws.{IsGiven}
-use Rattle.flt_generation.specs.Successor.{is_written}
-use Rattle.flt_generation.proofs.Choices.{chosen, not_chosen, range_more}
-use Rattle.flt_generation.proofs.Pages.{sum_more}
+use Rattle.flt_store_model.specs.declared.commit.Commit.{Commit}
+use Rattle.flt_store_model.specs.Layout.{first_part, parts, is_used, used_ids}
+use Rattle.flt_store_model.specs.Laws.{IsGiven}
+use Rattle.flt_store_model.specs.Successor.{is_written}
+use Rattle.flt_store_model.proofs.Choices.{chosen, not_chosen, range_more}
+use Rattle.flt_store_model.proofs.Pages.{sum_more}
 use Rattle.flt_store.specs.Cause.{HasRoom}
 use Rattle.flt_store.specs.Cost.{SwitchesWithin, Spends, written_sum}
 use Rattle.flt_store.proofs.Successors.{used_of}

@@ -10,10 +10,10 @@ use Rattle.flt_flash.proofs.CallsInARow.{no_call, more_calls}
 use Rattle.flt_nvm.specs.Leaves.{GivesInAJob}
 use Rattle.flt_nvm.specs.Reads.{IsUnmended}
 use Rattle.flt_config.specs.declared.config.Config.{Config}
-use Rattle.flt_generation.specs.Laws.{IsGiven}
-use Rattle.flt_generation.specs.Layout.{commit_id, mark_number, number_of, numbers}
-use Rattle.flt_generation.specs.Excess.{IsBorne}
-use Rattle.flt_generation.specs.Form.{mark_of}
+use Rattle.flt_store_model.specs.Laws.{IsGiven}
+use Rattle.flt_store_model.specs.Layout.{commit_id, mark_number, number_of, numbers}
+use Rattle.flt_store_model.specs.Excess.{IsBorne}
+use Rattle.flt_store_model.specs.Form.{mark_of}
 use Rattle.flt_restore.specs.declared.fault.StartFault.TheVariants.{Flash}
 use Rattle.flt_restore.specs.Unread.{IsImageUnread}
 use Rattle.flt_restore.proofs.Failing.{image_unread_from}

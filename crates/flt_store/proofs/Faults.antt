@@ -10,14 +10,14 @@ use Rattle.flt_flash.specs.declared.blocks.BlockFault.TheVariants.{Flash as Flas
 use Rattle.flt_config.specs.declared.config.Config.{Config}
 use Rattle.flt_config.specs.declared.persist.Persist.{Persist}
 use Rattle.flt_config.specs.Validity.{needed_pages}
-use Rattle.flt_generation.specs.declared.mark.Mark.{Mark}
-use Rattle.flt_generation.specs.declared.commit.Commit.{Commit}
-use Rattle.flt_generation.specs.declared.place.Place.TheVariants.{Page, Block}
-use Rattle.flt_generation.specs.Layout.{first_commit, second_commit, mark_number, number_of, part_of, first_part, parts, is_used, index_in}
-use Rattle.flt_generation.specs.Form.{mark_of}
-use Rattle.flt_generation.specs.Reading.{mark_in, commit_in, taken}
-use Rattle.flt_generation.specs.Excess.{excess}
-use Rattle.flt_generation.specs.Holding.{Generation, Fault, damaged, other, damaged_at, ◌>>=◌, is_same_mark, judged_mark, marked, or_damaged, with_content, with_named, parts_read, generation_of, named, application_fault, applications_judged, excess_judged, held_by, either_copy, only_bytes}
+use Rattle.flt_store_model.specs.declared.mark.Mark.{Mark}
+use Rattle.flt_store_model.specs.declared.commit.Commit.{Commit}
+use Rattle.flt_store_model.specs.declared.place.Place.TheVariants.{Page, Block}
+use Rattle.flt_store_model.specs.Layout.{first_commit, second_commit, mark_number, number_of, part_of, first_part, parts, is_used, index_in}
+use Rattle.flt_store_model.specs.Form.{mark_of}
+use Rattle.flt_store_model.specs.Reading.{mark_in, commit_in, taken}
+use Rattle.flt_store_model.specs.Excess.{excess}
+use Rattle.flt_store_model.specs.Holding.{Generation, Fault, damaged, other, damaged_at, ◌>>=◌, is_same_mark, judged_mark, marked, or_damaged, with_content, with_named, parts_read, generation_of, named, application_fault, applications_judged, excess_judged, held_by, either_copy, only_bytes}
 use Rattle.flt_restore.specs.declared.fault.StartFault.{StartFault}
 use Rattle.flt_restore.specs.declared.fault.StartFault.TheVariants.{Flash, Damaged, OtherConfig, SequenceSpent}
 use Rattle.flt_restore.specs.Restored.{IsJudged, Refuses}

@@ -5,12 +5,12 @@ use Rattle.std.proofs.lemmas.Bool.{le-leb}
 use Rattle.flt_flash.specs.Blocks.{BlocksState}
 use Rattle.flt_config.specs.declared.config.Config.{Config}
 use Rattle.flt_config.specs.declared.persist.Persist.{Persist}
-use Rattle.flt_generation.specs.declared.commit.Commit.{Commit}
-use Rattle.flt_generation.specs.Layout.{is_used, part_of}
-use Rattle.flt_generation.specs.Form.{block_bytes}
-use Rattle.flt_generation.specs.Laws.{IsGiven}
-use Rattle.flt_generation.specs.Holding.{Generation, CommitNames}
-use Rattle.flt_generation.proofs.Choices.{chosen}
+use Rattle.flt_store_model.specs.declared.commit.Commit.{Commit}
+use Rattle.flt_store_model.specs.Layout.{is_used, part_of}
+use Rattle.flt_store_model.specs.Form.{block_bytes}
+use Rattle.flt_store_model.specs.Laws.{IsGiven}
+use Rattle.flt_store_model.specs.Holding.{Generation, CommitNames}
+use Rattle.flt_store_model.proofs.Choices.{chosen}
 use Rattle.flt_image.specs.Blocks.{longest}
 use Rattle.flt_image.proofs.Sizing.{part_short, part_sized}
 use Rattle.flt_restore.specs.Learning.{part_in, AreLearned}

@@ -6,11 +6,11 @@ use Rattle.flt_flash.specs.Content.{Content, missing, invalid, bytes}
 use Rattle.flt_flash.specs.Blocks.{BlocksState, pages_of, record_pages}
 use Rattle.flt_flash.specs.Calls.{Follows, OthersKept}
 use Rattle.flt_config.specs.declared.config.Config.{Config}
-use Rattle.flt_generation.specs.Layout.{mark_number, application_number}
-use Rattle.flt_generation.specs.Form.{mark_of, mark_bytes}
-use Rattle.flt_generation.specs.Excess.{IsBorne, own_pages}
-use Rattle.flt_generation.specs.Holding.{MarkAllows, SameApplications, is_application}
-use Rattle.flt_generation.proofs.Marks.{mark_size}
+use Rattle.flt_store_model.specs.Layout.{mark_number, application_number}
+use Rattle.flt_store_model.specs.Form.{mark_of, mark_bytes}
+use Rattle.flt_store_model.specs.Excess.{IsBorne, own_pages}
+use Rattle.flt_store_model.specs.Holding.{MarkAllows, SameApplications, is_application}
+use Rattle.flt_store_model.proofs.Marks.{mark_size}
 use Rattle.flt_store.specs.Cause.{IsWithinOwn}
 use Rattle.flt_store.specs.Started.{IsMarkTried}
 use Rattle.flt_store.proofs.Causes.{borne_stays}

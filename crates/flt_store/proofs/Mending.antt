@@ -9,11 +9,11 @@ use Rattle.flt_config.specs.declared.config.Config.{Config}
 use Rattle.flt_nvm.specs.declared.nvm.Nvm.{Nvm}
 use Rattle.flt_nvm.specs.Blocks.{Repairs}
 use Rattle.flt_nvm.specs.Driver.{driver_of}
-use Rattle.flt_generation.specs.declared.commit.Commit.{Commit}
-use Rattle.flt_generation.specs.Layout.{commit_id, number_of, application_number}
-use Rattle.flt_generation.specs.Reading.{commit_in}
-use Rattle.flt_generation.specs.Form.{commit_length}
-use Rattle.flt_generation.specs.Holding.{Generation, Holds, IsSound, OldOrNew, SameApplications}
+use Rattle.flt_store_model.specs.declared.commit.Commit.{Commit}
+use Rattle.flt_store_model.specs.Layout.{commit_id, number_of, application_number}
+use Rattle.flt_store_model.specs.Reading.{commit_in}
+use Rattle.flt_store_model.specs.Form.{commit_length}
+use Rattle.flt_store_model.specs.Holding.{Generation, Holds, IsSound, OldOrNew, SameApplications}
 use Rattle.flt_store.specs.Cause.{IsWithinOwn, Writes}
 use Rattle.flt_store.specs.Dark.{IsCommitUnmended}
 use Rattle.flt_store.specs.Spent.{IsCommitStuck}

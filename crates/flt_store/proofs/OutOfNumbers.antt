@@ -2,7 +2,7 @@
 use Rattle.std.proofs.Common.{inl, inr, ⊎_elim, ◌∙◌, sym, arith}
 use Rattle.flt_flash.specs.Blocks.{BlocksState}
 use Rattle.flt_flash.specs.Calls.{Follows, OthersKept}
-use Rattle.flt_generation.specs.Layout.{mark_number}
+use Rattle.flt_store_model.specs.Layout.{mark_number}
 use Rattle.flt_store.specs.Spent.{IsCommitStuck}
 
 -- Where nothing but the mark was written before it.

@@ -5,9 +5,9 @@ use Rattle.flt_flash.specs.Blocks.{BlocksState}
 use Rattle.flt_flash.specs.Calls.{Follows, SameValues}
 use Rattle.flt_flash.specs.declared.blocks.Blocks.{Ghosts}
 use Rattle.flt_config.specs.declared.config.Config.{Config}
-use Rattle.flt_generation.specs.declared.place.Place.TheVariants.{Page, Block}
-use Rattle.flt_generation.specs.Holding.{Fault, held, spare}
-use Rattle.flt_generation.proofs.ImageLaws.{held_stands, spare_stands}
+use Rattle.flt_store_model.specs.declared.place.Place.TheVariants.{Page, Block}
+use Rattle.flt_store_model.specs.Holding.{Fault, held, spare}
+use Rattle.flt_store_model.proofs.ImageLaws.{held_stands, spare_stands}
 use Rattle.flt_restore.specs.Restored.{IsJudged}
 use Rattle.flt_restore.specs.declared.fault.StartFault.{StartFault}
 use Rattle.flt_restore.specs.declared.fault.StartFault.TheVariants.{Flash, Damaged, OtherConfig, SequenceSpent}

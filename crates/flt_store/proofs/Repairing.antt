@@ -9,13 +9,13 @@ use Rattle.flt_flash.specs.Calls.{ReadsContent}
 use Rattle.flt_flash.specs.declared.blocks.Found.TheVariants.{Bytes}
 use Rattle.flt_config.specs.declared.config.Config.{Config}
 use Rattle.flt_nvm.specs.Leaves.{HasNoBytes}
-use Rattle.flt_generation.specs.declared.commit.Commit.{Commit}
-use Rattle.flt_generation.specs.Layout.{commit_id, number_of, first_commit, second_commit}
-use Rattle.flt_generation.specs.Reading.{commit_in}
-use Rattle.flt_generation.specs.Excess.{IsBorne, own_pages}
-use Rattle.flt_generation.specs.Holding.{Generation, Names, Holds, IsHeld, IsSpare, IsSound, either_copy, only_bytes, OldOrNew}
-use Rattle.flt_generation.proofs.Commits.{bytes_of_commit_size, commit_read, read_commit}
-use Rattle.flt_generation.specs.Form.{commit_length}
+use Rattle.flt_store_model.specs.declared.commit.Commit.{Commit}
+use Rattle.flt_store_model.specs.Layout.{commit_id, number_of, first_commit, second_commit}
+use Rattle.flt_store_model.specs.Reading.{commit_in}
+use Rattle.flt_store_model.specs.Excess.{IsBorne, own_pages}
+use Rattle.flt_store_model.specs.Holding.{Generation, Names, Holds, IsHeld, IsSpare, IsSound, either_copy, only_bytes, OldOrNew}
+use Rattle.flt_store_model.proofs.Commits.{bytes_of_commit_size, commit_read, read_commit}
+use Rattle.flt_store_model.specs.Form.{commit_length}
 use Rattle.flt_store.specs.Cause.{IsWithinOwn}
 use Rattle.flt_store.specs.Started.{HasMark, IsStarted, AgreeButForCommit}
 use Rattle.flt_store.proofs.Causes.{own_first, own_second}

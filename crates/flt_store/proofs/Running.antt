@@ -6,9 +6,9 @@ use Rattle.flt_flash.specs.Content.{Content}
 use Rattle.flt_flash.specs.Blocks.{BlocksState}
 use Rattle.flt_flash.specs.Calls.{Follows, SameValues}
 use Rattle.flt_config.specs.declared.config.Config.{Config}
-use Rattle.flt_generation.specs.Holding.{Generation, IsOneOf, IsSound}
+use Rattle.flt_store_model.specs.Holding.{Generation, IsOneOf, IsSound}
 use Rattle.flt_store.specs.Cause.{FailsThrice, HasRoom}
-use Rattle.flt_generation.specs.declared.commit.Commit.{Commit}
+use Rattle.flt_store_model.specs.declared.commit.Commit.{Commit}
 use Rattle.flt_store.specs.Started.{HasMark, IsStarted}
 use Rattle.flt_store.specs.Known.{Knows}
 use Rattle.flt_config.specs.declared.persist.Persist.{Persist}

@@ -5,18 +5,18 @@ use Rattle.std.proofs.lemmas.Bool.{cases_Bool, and_from}
 use Rattle.flt_flash.specs.Content.{Content, bytes}
 use Rattle.flt_config.specs.declared.config.Config.{Config}
 use Rattle.flt_config.specs.declared.persist.Persist.{Persist}
-use Rattle.flt_generation.specs.declared.commit.Commit.{Commit}
-use Rattle.flt_generation.specs.Layout.{number_of, mark_number, first_commit, second_commit, application_number, is_used, index_in}
-use Rattle.flt_generation.specs.Form.{commit_bytes, block_bytes, IsCommit}
-use Rattle.flt_generation.specs.Excess.{IsBorne}
-use Rattle.flt_generation.specs.Holding.{Generation, BlocksHold, either_copy, only_bytes, is_application, IsSound, OldOrNew}
-use Rattle.flt_generation.specs.Successor.{IsContentOf, number_in, IsPlaced, IsNext, is_moved, is_written, OnlyNewBlocks}
+use Rattle.flt_store_model.specs.declared.commit.Commit.{Commit}
+use Rattle.flt_store_model.specs.Layout.{number_of, mark_number, first_commit, second_commit, application_number, is_used, index_in}
+use Rattle.flt_store_model.specs.Form.{commit_bytes, block_bytes, IsCommit}
+use Rattle.flt_store_model.specs.Excess.{IsBorne}
+use Rattle.flt_store_model.specs.Holding.{Generation, BlocksHold, either_copy, only_bytes, is_application, IsSound, OldOrNew}
+use Rattle.flt_store_model.specs.Successor.{IsContentOf, number_in, IsPlaced, IsNext, is_moved, is_written, OnlyNewBlocks}
 use Rattle.flt_image.specs.Blocks.{AreBlocksOf}
 use Rattle.flt_store.specs.Cause.{IsWithinOwn}
 use Rattle.flt_store.specs.Known.{MayKnow}
 use Rattle.flt_store.specs.Writing.{AreWritten}
 use Rattle.flt_store.specs.Started.{NamesOf, IsStarted, AgreeButForCommit}
-use Rattle.flt_generation.proofs.Pages.{used_range}
+use Rattle.flt_store_model.proofs.Pages.{used_range}
 use Rattle.flt_store.proofs.Causes.{borne_stays}
 use Rattle.flt_store.proofs.Successors.{Apart, used_of, moved_of, small_index, unmoved}
 use Rattle.flt_store.proofs.Started.{holds_of, sound_started, numbered, names_kept, mark_kept, applications_kept}

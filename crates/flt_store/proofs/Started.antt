@@ -3,13 +3,13 @@ use Rattle.std.proofs.Common.{◌≡◌, inl, ℕ, ◌<◌, ◌≤◌, List, Opt
 use Rattle.std.specs.Prelude.{IsTrue}
 use Rattle.flt_flash.specs.Content.{Content, missing, invalid, bytes}
 use Rattle.flt_config.specs.declared.config.Config.{Config}
-use Rattle.flt_generation.specs.declared.commit.Commit.{Commit}
-use Rattle.flt_generation.specs.Layout.{number_of, mark_number, first_commit, second_commit, application_number, applications, is_used, index_in}
-use Rattle.flt_generation.specs.Excess.{IsBorne}
-use Rattle.flt_generation.specs.Holding.{Generation, CommitNames, Names, MarkAllows, either_copy, only_bytes, is_application, Holds, IsSound}
-use Rattle.flt_generation.specs.Successor.{IsContentOf, number_in}
+use Rattle.flt_store_model.specs.declared.commit.Commit.{Commit}
+use Rattle.flt_store_model.specs.Layout.{number_of, mark_number, first_commit, second_commit, application_number, applications, is_used, index_in}
+use Rattle.flt_store_model.specs.Excess.{IsBorne}
+use Rattle.flt_store_model.specs.Holding.{Generation, CommitNames, Names, MarkAllows, either_copy, only_bytes, is_application, Holds, IsSound}
+use Rattle.flt_store_model.specs.Successor.{IsContentOf, number_in}
 use Rattle.flt_store.specs.Started.{HasMark, NamesOf, IsStarted, AgreeButForCommit}
-use Rattle.flt_generation.proofs.Pages.{used_range}
+use Rattle.flt_store_model.proofs.Pages.{used_range}
 
 pub bytes_same : (one two : List ℕ) → bytes one ≡ bytes two → one ≡ two
 bytes_same one two same = cc same

@@ -4,13 +4,13 @@ use Rattle.std.specs.Prelude.{IsTrue, IfSome, ◌≢◌}
 use Rattle.std.proofs.lemmas.Bool.{and_parts, eqb-true, eqb-false, not-true, not-false}
 use Rattle.flt_config.specs.declared.config.Config.{Config}
 use Rattle.flt_config.specs.declared.persist.Persist.{Persist}
-use Rattle.flt_generation.specs.declared.commit.Commit.{Commit}
-use Rattle.flt_generation.specs.declared.part.Part.{Part}
-use Rattle.flt_generation.specs.declared.part.Part.TheVariants.{Summary, States, Entry}
-use Rattle.flt_generation.specs.Layout.{is_used, index_in, part_of}
-use Rattle.flt_generation.specs.Form.{IsCommit, block_bytes, part_length}
-use Rattle.flt_generation.specs.Successor.{number_in, IsPlaced, IsNext, is_moved, is_written, WritesWithin}
-use Rattle.flt_generation.proofs.Pages.{used_range}
+use Rattle.flt_store_model.specs.declared.commit.Commit.{Commit}
+use Rattle.flt_store_model.specs.declared.part.Part.{Part}
+use Rattle.flt_store_model.specs.declared.part.Part.TheVariants.{Summary, States, Entry}
+use Rattle.flt_store_model.specs.Layout.{is_used, index_in, part_of}
+use Rattle.flt_store_model.specs.Form.{IsCommit, block_bytes, part_length}
+use Rattle.flt_store_model.specs.Successor.{number_in, IsPlaced, IsNext, is_moved, is_written, WritesWithin}
+use Rattle.flt_store_model.proofs.Pages.{used_range}
 use Rattle.flt_image.specs.Blocks.{AreBlocksOf}
 use Rattle.flt_store.specs.Known.{MayKnow}
 

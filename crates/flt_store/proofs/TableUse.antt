@@ -5,8 +5,8 @@ use Rattle.flt_nvm.specs.declared.table.Kind.{Kind}
 use Rattle.flt_nvm.specs.declared.table.Kind.TheVariants.{Native, Redundant, Dataset}
 use Rattle.flt_nvm.specs.declared.table.BlockCfg.{BlockCfg}
 use Rattle.flt_nvm.specs.Table.{block_in, indices_of, ByKind, AsKept, HasIndex, FitsBlock, IsRedundant}
-use Rattle.flt_generation.specs.Layout.{mark_id, commit_id, first_part, end_part, first_application, applications, part_of}
-use Rattle.flt_generation.specs.Form.{part_length, commit_length}
+use Rattle.flt_store_model.specs.Layout.{mark_id, commit_id, first_part, end_part, first_application, applications, part_of}
+use Rattle.flt_store_model.specs.Form.{part_length, commit_length}
 use Rattle.flt_image.specs.Table.{row, block_table}
 use Rattle.flt_image.proofs.TableRows.{mark_row, commit_row, part_row, application_row}
 

@@ -9,13 +9,13 @@ use Rattle.flt_config.specs.declared.config.Config.{Config}
 use Rattle.flt_config.specs.declared.persist.Persist.{Persist}
 use Rattle.flt_config.specs.Durable.{Fits}
 use Rattle.flt_nvm.specs.Leaves.{Gives, GivesBoth}
-use Rattle.flt_generation.specs.declared.commit.Commit.{Commit}
-use Rattle.flt_generation.specs.Layout.{commit_id, number_of, mark_number, application_number, index_in}
-use Rattle.flt_generation.specs.Form.{commit_bytes, IsCommit, commit_length_2}
-use Rattle.flt_generation.specs.Excess.{IsBorne}
-use Rattle.flt_generation.specs.Holding.{Generation, OldOrNew, SameApplications}
-use Rattle.flt_generation.specs.Successor.{IsNext, IsNewBlock, OnlyNewBlock, OnlyNewBlocks, WritesWithin, is_written, number_in}
-use Rattle.flt_generation.proofs.Commits.{commit_size}
+use Rattle.flt_store_model.specs.declared.commit.Commit.{Commit}
+use Rattle.flt_store_model.specs.Layout.{commit_id, number_of, mark_number, application_number, index_in}
+use Rattle.flt_store_model.specs.Form.{commit_bytes, IsCommit, commit_length_2}
+use Rattle.flt_store_model.specs.Excess.{IsBorne}
+use Rattle.flt_store_model.specs.Holding.{Generation, OldOrNew, SameApplications}
+use Rattle.flt_store_model.specs.Successor.{IsNext, IsNewBlock, OnlyNewBlock, OnlyNewBlocks, WritesWithin, is_written, number_in}
+use Rattle.flt_store_model.proofs.Commits.{commit_size}
 use Rattle.flt_image.specs.Blocks.{AreBlocksOf}
 use Rattle.flt_store.specs.Cause.{IsWithinOwn}
 use Rattle.flt_store.specs.Known.{MayKnow}

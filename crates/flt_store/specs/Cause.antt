@@ -7,7 +7,7 @@ use Rattle.flt_flash.specs.Calls.{Follows}
 use Rattle.flt_flash.specs.declared.blocks.BlockFault.{BlockFault}
 use Rattle.flt_flash.specs.declared.blocks.BlockFault.TheVariants.{Flash, Full, SequenceSpent, Damaged}
 use Rattle.flt_config.specs.declared.config.Config.{Config}
-use Rattle.flt_generation.specs.Excess.{own_pages}
+use Rattle.flt_store_model.specs.Excess.{own_pages}
 
 -- The flash failed three times.
 abbrev pub FailsThrice : BlocksState → BlocksState → Type 0

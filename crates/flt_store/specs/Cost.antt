@@ -4,9 +4,9 @@ use Rattle.std.specs.List.{range_with_len}
 use Rattle.flt_flash.specs.Blocks.{BlocksState}
 use Rattle.flt_flash.specs.Calls.{NoFault, NoErase, CostsAtMost, switch_cost}
 use Rattle.flt_config.specs.declared.config.Config.{Config}
-use Rattle.flt_generation.specs.declared.commit.Commit.{Commit}
-use Rattle.flt_generation.specs.Layout.{first_part}
-use Rattle.flt_generation.specs.Successor.{is_written, changed_pages}
+use Rattle.flt_store_model.specs.declared.commit.Commit.{Commit}
+use Rattle.flt_store_model.specs.Layout.{first_part}
+use Rattle.flt_store_model.specs.Successor.{is_written, changed_pages}
 
 -- A record of at most 96 bytes, with a switch of sectors before it where one is needed, costs at most so many.
 abbrev pub SwitchesWithin : Option ℕ → ℕ → Type 0

@@ -8,10 +8,10 @@ use Rattle.flt_nvm.specs.Tries.{Tries, Mounts}
 use Rattle.flt_nvm.specs.Leaves.{GivesInAJob}
 use Rattle.flt_nvm.specs.Reads.{IsUnmended, IsUnreadable}
 use Rattle.flt_config.specs.declared.config.Config.{Config}
-use Rattle.flt_generation.specs.Layout.{commit_id, mark_number, number_of}
-use Rattle.flt_generation.specs.Form.{mark_of, mark_bytes}
-use Rattle.flt_generation.specs.Holding.{Generation, IsSound}
-use Rattle.flt_generation.specs.declared.place.Place.TheVariants.{Page, Block}
+use Rattle.flt_store_model.specs.Layout.{commit_id, mark_number, number_of}
+use Rattle.flt_store_model.specs.Form.{mark_of, mark_bytes}
+use Rattle.flt_store_model.specs.Holding.{Generation, IsSound}
+use Rattle.flt_store_model.specs.declared.place.Place.TheVariants.{Page, Block}
 use Rattle.flt_restore.specs.declared.fault.StartFault.{StartFault}
 use Rattle.flt_restore.specs.declared.fault.StartFault.TheVariants.{Flash as StartFlash, Damaged, OtherConfig, SequenceSpent}
 use Rattle.flt_restore.specs.Unread.{IsImageUnread}

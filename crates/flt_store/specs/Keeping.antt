@@ -4,10 +4,10 @@ use Rattle.flt_flash.specs.Content.{Content, bytes}
 use Rattle.flt_flash.specs.Blocks.{BlocksState}
 use Rattle.flt_config.specs.declared.config.Config.{Config}
 use Rattle.flt_config.specs.declared.persist.Persist.{Persist}
-use Rattle.flt_generation.specs.declared.commit.Commit.{Commit}
-use Rattle.flt_generation.specs.Layout.{first_commit, is_used, index_in}
-use Rattle.flt_generation.specs.Reading.{commit_in}
-use Rattle.flt_generation.specs.Successor.{KeepsIndices}
+use Rattle.flt_store_model.specs.declared.commit.Commit.{Commit}
+use Rattle.flt_store_model.specs.Layout.{first_commit, is_used, index_in}
+use Rattle.flt_store_model.specs.Reading.{commit_in}
+use Rattle.flt_store_model.specs.Successor.{KeepsIndices}
 use Rattle.flt_store.specs.Cause.{FailsThrice}
 use Rattle.flt_store.specs.Writing.{AreCopiesOf}
 

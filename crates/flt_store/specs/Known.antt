@@ -2,9 +2,9 @@
 use Rattle.std.specs.Prelude.{◌≡◌, ◌⊎◌, ℕ, List, [], Option, Some, None, IsTrue}
 use Rattle.flt_config.specs.declared.config.Config.{Config}
 use Rattle.flt_config.specs.declared.persist.Persist.{Persist}
-use Rattle.flt_generation.specs.declared.commit.Commit.{Commit}
-use Rattle.flt_generation.specs.Layout.{is_used}
-use Rattle.flt_generation.specs.Form.{block_bytes}
+use Rattle.flt_store_model.specs.declared.commit.Commit.{Commit}
+use Rattle.flt_store_model.specs.Layout.{is_used}
+use Rattle.flt_store_model.specs.Form.{block_bytes}
 
 -- The bytes of each used block of the state.
 abbrev pub Knows : Config → (ℕ → List ℕ) → Persist → Type 0

@@ -3,8 +3,8 @@ use Rattle.std.specs.Prelude.{◌≡◌, ◌≢◌, ◌⊎◌, ℕ, ◌-◌, ◌
 use Rattle.flt_flash.specs.Content.{bytes}
 use Rattle.flt_flash.specs.Blocks.{BlocksState}
 use Rattle.flt_config.specs.declared.config.Config.{Config}
-use Rattle.flt_generation.specs.Layout.{commit_id, mark_number, number_of}
-use Rattle.flt_generation.specs.Form.{mark_of, mark_bytes}
+use Rattle.flt_store_model.specs.Layout.{commit_id, mark_number, number_of}
+use Rattle.flt_store_model.specs.Form.{mark_of, mark_bytes}
 use Rattle.flt_store.specs.Cause.{FailsThrice}
 use Rattle.flt_restore.specs.Restored.{IsMarkDue}
 

@@ -5,10 +5,10 @@ use Rattle.flt_flash.specs.Calls.{SameValues}
 use Rattle.flt_flash.specs.declared.blocks.Blocks.{Ghosts}
 use Rattle.flt_config.specs.declared.config.Config.{Config}
 use Rattle.flt_config.specs.declared.persist.Persist.{Persist}
-use Rattle.flt_generation.specs.declared.place.Place.TheVariants.{Page, Block}
-use Rattle.flt_generation.specs.Layout.{first_commit, second_commit}
-use Rattle.flt_generation.specs.Form.{mark_of}
-use Rattle.flt_generation.specs.Holding.{Generation, Fault, damaged, other, only_bytes, Holds}
+use Rattle.flt_store_model.specs.declared.place.Place.TheVariants.{Page, Block}
+use Rattle.flt_store_model.specs.Layout.{first_commit, second_commit}
+use Rattle.flt_store_model.specs.Form.{mark_of}
+use Rattle.flt_store_model.specs.Holding.{Generation, Fault, damaged, other, only_bytes, Holds}
 use Rattle.flt_restore.specs.declared.commit.CommitCopy.{CommitCopy}
 use Rattle.flt_restore.specs.declared.fault.StartFault.{StartFault}
 use Rattle.flt_restore.specs.declared.fault.StartFault.TheVariants.{Flash, Damaged, OtherConfig, SequenceSpent}

@@ -4,12 +4,12 @@ use Rattle.flt_flash.specs.Content.{Content, bytes}
 use Rattle.flt_flash.specs.Blocks.{BlocksState}
 use Rattle.flt_config.specs.declared.config.Config.{Config}
 use Rattle.flt_config.specs.declared.persist.Persist.{Persist}
-use Rattle.flt_generation.specs.declared.commit.Commit.{Commit}
-use Rattle.flt_generation.specs.Layout.{applications, mark_number, first_commit, second_commit, application_number}
-use Rattle.flt_generation.specs.Form.{mark_of, mark_bytes}
-use Rattle.flt_generation.specs.Excess.{IsBorne}
-use Rattle.flt_generation.specs.Holding.{Generation, first_generation, CommitNames, only_bytes, is_application}
-use Rattle.flt_generation.specs.Successor.{IsContentOf, number_in}
+use Rattle.flt_store_model.specs.declared.commit.Commit.{Commit}
+use Rattle.flt_store_model.specs.Layout.{applications, mark_number, first_commit, second_commit, application_number}
+use Rattle.flt_store_model.specs.Form.{mark_of, mark_bytes}
+use Rattle.flt_store_model.specs.Excess.{IsBorne}
+use Rattle.flt_store_model.specs.Holding.{Generation, first_generation, CommitNames, only_bytes, is_application}
+use Rattle.flt_store_model.specs.Successor.{IsContentOf, number_in}
 use Rattle.flt_store.specs.Cause.{FailsThrice}
 use Rattle.flt_restore.specs.Restored.{IsMarkDue}
 

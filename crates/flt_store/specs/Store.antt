@@ -6,9 +6,9 @@ use Rattle.flt_flash.specs.declared.blocks.Blocks.{Ghosts}
 use Rattle.flt_config.specs.declared.config.Config.{Config}
 use Rattle.flt_config.specs.declared.persist.Persist.{Persist}
 use Rattle.flt_nvm.specs.Driver.{driver_of as driver_beneath}
-use Rattle.flt_generation.specs.declared.commit.Commit.{Commit}
-use Rattle.flt_generation.specs.Laws.{IsGiven}
-use Rattle.flt_generation.specs.Holding.{Generation, last_number, IsSound, IsOneOf}
+use Rattle.flt_store_model.specs.declared.commit.Commit.{Commit}
+use Rattle.flt_store_model.specs.Laws.{IsGiven}
+use Rattle.flt_store_model.specs.Holding.{Generation, last_number, IsSound, IsOneOf}
 use Rattle.flt_store.specs.declared.store.Store.{Store}
 use Rattle.flt_store.specs.Cause.{FailsThrice, HasRoom}
 use Rattle.flt_store.specs.Started.{HasMark, IsStarted}

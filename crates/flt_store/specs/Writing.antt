@@ -2,10 +2,10 @@
 use Rattle.std.specs.Prelude.{◌≡◌, ℕ, List, length, Option, IsTrue}
 use Rattle.flt_flash.specs.Content.{Content, bytes}
 use Rattle.flt_config.specs.declared.config.Config.{Config}
-use Rattle.flt_generation.specs.declared.commit.Commit.{Commit}
-use Rattle.flt_generation.specs.Layout.{first_commit, second_commit, number_of, index_in, is_used, part_of}
-use Rattle.flt_generation.specs.Form.{commit_bytes, part_length}
-use Rattle.flt_generation.specs.Successor.{is_written}
+use Rattle.flt_store_model.specs.declared.commit.Commit.{Commit}
+use Rattle.flt_store_model.specs.Layout.{first_commit, second_commit, number_of, index_in, is_used, part_of}
+use Rattle.flt_store_model.specs.Form.{commit_bytes, part_length}
+use Rattle.flt_store_model.specs.Successor.{is_written}
 
 -- Both copies have the bytes of this commit in the version that is written.
 abbrev pub AreCopiesOf : Commit → (ℕ → Content) → Type 0

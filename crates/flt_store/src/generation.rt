@@ -4,10 +4,10 @@ ghost use Rattle.flt_flash.specs.Content.{bytes as holding};
 ghost use Rattle.flt_flash.specs.Blocks.{record_pages};
 ghost use Rattle.flt_nvm.specs.Driver.{driver_of, table_of};
 ghost use Rattle.flt_config.specs.Durable.{Fits};
-ghost use Rattle.flt_generation.specs.Layout.{first_part, parts, end_part, number_of, mark_number, index_in, used_ids};
-ghost use Rattle.flt_generation.specs.Form.{block_bytes};
-ghost use Rattle.flt_generation.specs.Holding.{Generation, OldOrNew, SameApplications, last_number};
-ghost use Rattle.flt_generation.specs.Successor.{IsNext, OnlyNewBlock, OnlyNewBlocks, WritesWithin, is_moved, is_written, number_in};
+ghost use Rattle.flt_store_model.specs.Layout.{first_part, parts, end_part, number_of, mark_number, index_in, used_ids};
+ghost use Rattle.flt_store_model.specs.Form.{block_bytes};
+ghost use Rattle.flt_store_model.specs.Holding.{Generation, OldOrNew, SameApplications, last_number};
+ghost use Rattle.flt_store_model.specs.Successor.{IsNext, OnlyNewBlock, OnlyNewBlocks, WritesWithin, is_moved, is_written, number_in};
 ghost use Rattle.flt_image.specs.Blocks.{bytes_at, AreBlocksOf};
 ghost use Rattle.flt_image.specs.Table.{block_table};
 ghost use Rattle.flt_store.specs.Cause.{IsWithinOwn, Writes};
@@ -18,9 +18,9 @@ ghost use Rattle.flt_store.specs.Writing.{AreCopiesOf, AreSized, AreWritten};
 
 use flt_config::{Persist, ValidConfig};
 use flt_flash::{BlockFault, Blocks};
-use flt_generation::{COMMIT_ID, END_PART, FIRST_PART};
 use flt_image::{Commit, StateBlocks, is_used, next_commit, put_commit};
 use flt_nvm::Nvm;
+use flt_store_model::{COMMIT_ID, END_PART, FIRST_PART};
 
 /// The next commit names the block at another index than the current one.
 fn is_moved(current: &Option<Commit>, next: &Commit, id: u16) -> bool

@@ -5,10 +5,10 @@ ghost use Rattle.flt_flash.specs.Calls.{Follows, OthersKept};
 ghost use Rattle.flt_nvm.specs.Driver.{driver_of, table_of};
 ghost use Rattle.flt_nvm.specs.Leaves.{IsEither};
 ghost use Rattle.flt_nvm.specs.Reads.{IsUnmended};
-ghost use Rattle.flt_generation.specs.Layout.{commit_id, number_of};
-ghost use Rattle.flt_generation.specs.Form.{IsCommit};
-ghost use Rattle.flt_generation.specs.Reading.{commit_in};
-ghost use Rattle.flt_generation.specs.Holding.{Generation, Holds, IsSound, OldOrNew};
+ghost use Rattle.flt_store_model.specs.Layout.{commit_id, number_of};
+ghost use Rattle.flt_store_model.specs.Form.{IsCommit};
+ghost use Rattle.flt_store_model.specs.Reading.{commit_in};
+ghost use Rattle.flt_store_model.specs.Holding.{Generation, Holds, IsSound, OldOrNew};
 ghost use Rattle.flt_image.specs.Table.{block_table};
 ghost use Rattle.flt_store.specs.Cause.{IsWithinOwn, Writes};
 ghost use Rattle.flt_store.specs.Dark.{IsUnrestarted};
@@ -18,9 +18,9 @@ ghost use Rattle.flt_store.specs.Started.{HasMark, IsStarted, AgreeButForCommit,
 
 use flt_config::ValidConfig;
 use flt_flash::{BlockFault, Blocks};
-use flt_generation::COMMIT_ID;
 use flt_image::{Commit, get_commit};
 use flt_nvm::{Got, Nvm};
+use flt_store_model::COMMIT_ID;
 
 /// Makes both copies of the commit hold what the first has, or the second where the first has no bytes or can't be read;
 /// answers their commit, or none before the first save. It stands apart from the saves that find the store settled: in line, each of them

@@ -6,10 +6,10 @@ ghost use Rattle.flt_nvm.specs.Driver.{driver_of as driver_beneath, table_of};
 ghost use Rattle.flt_config.specs.declared.config.Config.{Config};
 ghost use Rattle.flt_config.specs.declared.persist.Persist.{Persist};
 ghost use Rattle.flt_config.specs.Durable.{Fits};
-ghost use Rattle.flt_generation.specs.Form.{block_bytes};
-ghost use Rattle.flt_generation.specs.Layout.{numbers, used_ids};
-ghost use Rattle.flt_generation.specs.Holding.{Generation, OldOrNew, SameApplications, last_number};
-ghost use Rattle.flt_generation.specs.Successor.{changed_pages, number_in};
+ghost use Rattle.flt_store_model.specs.Form.{block_bytes};
+ghost use Rattle.flt_store_model.specs.Layout.{numbers, used_ids};
+ghost use Rattle.flt_store_model.specs.Holding.{Generation, OldOrNew, SameApplications, last_number};
+ghost use Rattle.flt_store_model.specs.Successor.{changed_pages, number_in};
 ghost use Rattle.flt_image.specs.Table.{block_table};
 ghost use Rattle.flt_store.specs.Cause.{FailsThrice, IsStuck};
 ghost use Rattle.flt_store.specs.Cost.{Spends, pages_to_write};
@@ -26,10 +26,10 @@ use crate::generation::write_generation;
 use crate::restarting::restart;
 use flt_config::{Persist, ValidConfig};
 use flt_flash::{Arm, Blocks};
-use flt_generation::LAST_NUMBER;
 use flt_image::{Commit, StateBlocks};
 use flt_nvm::Nvm;
 use flt_restore::read_blocks;
+use flt_store_model::LAST_NUMBER;
 use std::mem;
 
 /// The saved generations of a durable state, and the application blocks, in the blocks of a driver.

@@ -1,5 +1,7 @@
 //! Tests of the store over both drivers of blocks and their devices in memory: worked examples with cuts and faults, images that were
-//! changed, and jobs of which each program, erase or write is cut or fails.
+//! changed, and jobs of which each program, erase or write is cut or fails. The layers beneath the store are tested here too: the bytes
+//! of each block, what any driver answers, blocks by their kind, and what is restored of an image. Worked examples of commits stand in
+//! `specs/CommitExamples.antt`, and the checker computes them.
 //!
 //! It stands on `flt_store` and has nothing for the crates above. Read `src/tests/cuts.rt` first: it says what may stand after
 //! each cut.

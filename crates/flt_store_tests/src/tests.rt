@@ -1,18 +1,26 @@
-//! The store over a flash in memory, and over an EEPROM in memory: worked examples, changed images, and each operation of a job cut and made to fail.
-ghost use Rattle.std.specs.Prelude.{◌≡◌, IfOk, IsTrue, OnOk};
+//! The store over a flash in memory, and over an EEPROM in memory: worked examples, changed images, and each operation of a job cut and made to fail; and the layers
+//! beneath it: the bytes of blocks, a driver of blocks, blocks by their kind, and what an image holds.
+ghost use Rattle.std.specs.Prelude.{◌≡◌, IfOk, IsTrue, None, OnOk};
 ghost use Rattle.flt_flash.specs.State.{CanArm};
+ghost use Rattle.flt_ea.specs.Ea.{state_of};
+ghost use Rattle.flt_ea.specs.Memory.{state_of as device_state};
 ghost use Rattle.flt_config.specs.declared.config.Config.{Config};
 ghost use Rattle.flt_nvm.specs.Driver.{driver_of as driver_beneath, table_of};
-ghost use Rattle.flt_generation.specs.Layout.{numbers};
+ghost use Rattle.flt_store_model.specs.Layout.{numbers};
 ghost use Rattle.flt_image.specs.Table.{block_table};
 ghost use Rattle.flt_store.specs.Cause.{HasRoom};
 ghost use Rattle.flt_store.specs.Store.{IsAlive};
 ghost use Rattle.flt_store_tests.specs.Room.{IsRoomy, SameRoom};
 
+mod bytes;
 mod cuts;
+mod driver;
 mod images;
+mod kinds;
+mod restored;
 mod rows;
 mod steps;
+mod worked;
 
 use arrayvec::ArrayVec;
 use flt_code::{Word, get_word, put_word, seal, unseal};
@@ -22,10 +30,10 @@ use flt_config::{
 use flt_ea::{Ea, EepromMem};
 use flt_fee::Fee;
 use flt_flash::{Arm, BLANK_PAGE, Blocks, Flash, FlashFailed, FlashMem, Pattern};
-use flt_generation::COMMIT_ID;
 use flt_image::{block_table, fee_numbers, laws};
 use flt_nvm::{Got, Nvm};
 use flt_store::{Mark, Place, PutFault, SaveFault, StartFault, Store};
+use flt_store_model::COMMIT_ID;
 use std::alloc::{AllocError, Global};
 use std::process::Abort;
 use std::test::Fail;
@@ -44,27 +52,12 @@ const FAILED: u8 = 0x2F;
 
 const PASSED: u8 = 0x2E;
 
-fn event(dtc: u32) -> EventCfg {
-    EventCfg {
-        dtc,
-        priority: 1,
-        cycle: 0,
-        confirm: 1,
-        heal: 3,
-        age: 40,
-        indicator: false,
-        needs: 0,
-        debounce: Default::default(),
-        dids: ArrayVec::new(),
-    }
-}
-
 /// A configuration of so many entries, application blocks and events.
 fn configured(rt: &impl Abort, memory: u8, blocks: u8, count: u8) -> ValidConfig {
     let mut events = ArrayVec::new();
     for number in 0..count {
         if !events.is_full() {
-            events.push(event(1 + number as u32));
+            events.push(EventCfg::new(1 + number as u32));
         }
     }
     check(Config {
@@ -166,17 +159,25 @@ fn blank_store(alloc: Global, config: &ValidConfig) -> Result<Store<Fee<FlashMem
     store_over(alloc, flash, config)
 }
 
+/// A driver of the blocks of an image over a blank EEPROM whose power may come back so often.
+fn units_driver(alloc: Global, boots: u16) -> Result<Ea<EepromMem>, Fail>
+    ensures { IfOk result (λ driver. ((state_of device_state driver).numbers ≡ numbers) × ((state_of device_state driver).room ≡ None)) }
+{
+    let device = EepromMem::blank(alloc, UNITS, boots)?;
+    laws::numbers_are_distinct();
+    match Ea::make(alloc, device, fee_numbers(alloc)?) {
+        Ok(ea) => Ok(ea),
+        Err(_) => Err(Fail::from("no memory")),
+    }
+}
+
 /// A store over a blank EEPROM whose power may come back twice.
 fn units_store(alloc: Global) -> Result<Store<Ea<EepromMem>>, Fail>
     ensures { (c : Config) → IfOk result (λ store. IsRoomy c store) }
 {
-    let device = EepromMem::blank(alloc, UNITS, 2)?;
-    laws::numbers_are_distinct();
+    let driver = units_driver(alloc, 2)?;
     laws::numbers_serve_table();
-    match Ea::make(alloc, device, fee_numbers(alloc)?) {
-        Ok(ea) => Ok(Store::make(Nvm::make(ea, block_table(alloc)?))),
-        Err(_) => Err(Fail::from("no memory")),
-    }
+    Ok(Store::make(Nvm::make(driver, block_table(alloc)?)))
 }
 
 /// Starts up: the number of the generation and its state.

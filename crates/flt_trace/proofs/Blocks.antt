@@ -8,18 +8,18 @@ use Rattle.std.specs.List.{range_with_len}
 use Rattle.flt_config.specs.declared.config.Config.{Config}
 use Rattle.flt_config.specs.declared.persist.Persist.{Persist}
 use Rattle.flt_config.specs.Durable.{Fits, initial_state}
-use Rattle.flt_generation.specs.Faults.{HoldBelow}
-use Rattle.flt_generation.specs.Form.{block_bytes}
-use Rattle.flt_generation.specs.Holding.{Fault, ◌>>=◌, or_damaged, with_content, with_named, parts_read, BlocksHold}
+use Rattle.flt_store_model.specs.Faults.{HoldBelow}
+use Rattle.flt_store_model.specs.Form.{block_bytes}
+use Rattle.flt_store_model.specs.Holding.{Fault, ◌>>=◌, or_damaged, with_content, with_named, parts_read, BlocksHold}
 use Rattle.hex.specs.Hex.{IsBytes}
-use Rattle.flt_generation.specs.Layout.{number_of, index_in, part_of, is_used, used_ids, parts, end_part}
-use Rattle.flt_generation.specs.Reading.{taken}
-use Rattle.flt_generation.proofs.Choices.{chosen, not_chosen}
-use Rattle.flt_generation.proofs.ImageLaws.{zeros, blocks_of, stands}
-use Rattle.flt_generation.proofs.Short.{HasSizes}
+use Rattle.flt_store_model.specs.Layout.{number_of, index_in, part_of, is_used, used_ids, parts, end_part}
+use Rattle.flt_store_model.specs.Reading.{taken}
+use Rattle.flt_store_model.proofs.Choices.{chosen, not_chosen}
+use Rattle.flt_store_model.proofs.ImageLaws.{zeros, blocks_of, stands}
+use Rattle.flt_store_model.proofs.Short.{HasSizes}
 use Rattle.flt_image.proofs.Ranges.{one_more}
-use Rattle.flt_generation.proofs.Parts.{part_of_fitting}
-use Rattle.flt_generation.proofs.Whole.{blocks_read, whole_read}
+use Rattle.flt_store_model.proofs.Parts.{part_of_fitting}
+use Rattle.flt_store_model.proofs.Whole.{blocks_read, whole_read}
 use Rattle.flt_trace.specs.Base.{base_texts, block_text}
 
 module _ (c : Config) (p : Persist) where

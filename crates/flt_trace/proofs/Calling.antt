@@ -7,20 +7,20 @@ use Rattle.flt_config.specs.declared.TheConstants.{EVENTS}
 use Rattle.flt_config.specs.declared.config.Config.{Config}
 use Rattle.flt_model.specs.declared.call.Op.{Op}
 use Rattle.flt_model.specs.Reply.{Reply}
-use Rattle.flt_script.specs.Part.{PartOf}
-use Rattle.flt_script.specs.Step.{are_parts_in, is_lane_in, is_lane_step, is_part_in, is_step_in, store_lanes}
-use Rattle.flt_script.specs.declared.step.Step.{Step}
-use Rattle.flt_life.specs.Actions.{action_of}
-use Rattle.flt_life.specs.Answers.{Told}
+use Rattle.flt_step.specs.Part.{PartOf}
+use Rattle.flt_step.specs.Step.{are_parts_in, is_lane_in, is_lane_step, is_part_in, is_step_in, store_lanes}
+use Rattle.flt_step.specs.declared.step.Step.{Step}
+use Rattle.flt_life_model.specs.Actions.{action_of}
+use Rattle.flt_life_model.specs.Answers.{Told}
 use Rattle.flt_fork.specs.Making.{AreMadeBy, LanesMake}
-use Rattle.flt_life.specs.Making.{PartMakes, PartsMake}
+use Rattle.flt_life_model.specs.Making.{PartMakes, PartsMake}
 use Rattle.flt_fork.specs.Mixing.{Block}
-use Rattle.flt_life.specs.Parts.{width}
+use Rattle.flt_life_model.specs.Parts.{width}
 use Rattle.flt_fork.specs.Mixing as mixing
-use Rattle.flt_life.specs.Played.{ActionMakes, SaveMakes, StepMakes}
-use Rattle.flt_life.specs.declared.action.Action.{Action}
-use Rattle.flt_life.specs.declared.action.Action.TheVariants.{Call, Queue, Save, Drain, Get, Arm}
-use Rattle.flt_life.specs.declared.answer.StepAnswer.TheVariants as answers
+use Rattle.flt_life_model.specs.Played.{ActionMakes, SaveMakes, StepMakes}
+use Rattle.flt_life_model.specs.declared.action.Action.{Action}
+use Rattle.flt_life_model.specs.declared.action.Action.TheVariants.{Call, Queue, Save, Drain, Get, Arm}
+use Rattle.flt_life_model.specs.declared.answer.StepAnswer.TheVariants as answers
 use Rattle.flt_trace.specs.Call.{HasStep, IsSaveCall}
 use Rattle.flt_trace.proofs.Each.{Each, both, each_as}
 use Rattle.flt_trace.proofs.Filled.{HasPlace, HavePlace, IsToldAt}

@@ -14,13 +14,14 @@ use Rattle.flt_script.specs.Behind.{step_of}
 use Rattle.flt_script.specs.Line.{line_of}
 use Rattle.flt_script.specs.Said.{Line}
 use Rattle.flt_script.specs.Said as line
-use Rattle.flt_script.specs.Step.{is_step_in, step_text}
+use Rattle.flt_step.specs.Step.{is_step_in}
+use Rattle.flt_step.specs.Words.{step_text}
 use Rattle.flt_script.specs.declared.fault.LineCause.{LineCause}
-use Rattle.flt_script.specs.declared.step.Step.{Step}
+use Rattle.flt_step.specs.declared.step.Step.{Step}
 use Rattle.flt_script.proofs.StepRead.{in_range, is_read}
-use Rattle.flt_life.specs.Actions.{IsPossible, action_of}
-use Rattle.flt_life.specs.declared.action.Action.TheVariants.{Call}
-use Rattle.flt_life.proofs.PossibleSteps.{possible_step}
+use Rattle.flt_life_model.specs.Actions.{IsPossible, action_of}
+use Rattle.flt_life_model.specs.declared.action.Action.TheVariants.{Call}
+use Rattle.flt_life_model.proofs.PossibleSteps.{possible_step}
 use Rattle.flt_trace.specs.Call.{AreCallTexts, IsCallText, IsOfSave, IsOfStep, IsOpText, is_space}
 use Rattle.flt_trace.proofs.Numbers.{drop_behind, space_behind}
 

@@ -10,22 +10,22 @@ use Rattle.flt_model.specs.declared.call.Op.TheVariants as ops
 use Rattle.flt_model.specs.Reply.{Reply}
 use Rattle.flt_queue.specs.declared.job.QueueOp.{QueueOp}
 use Rattle.flt_queue.specs.declared.job.QueueReply.{QueueReply}
-use Rattle.flt_script.specs.Part.{PartOf}
-use Rattle.flt_script.specs.declared.step.Step.{Step}
+use Rattle.flt_step.specs.Part.{PartOf}
+use Rattle.flt_step.specs.declared.step.Step.{Step}
 use Rattle.flt_turn.proofs.Journals.{calls_of-append}
 use Rattle.flt_turn.specs.Journal.{entry, calls_of, ops_of}
 use Rattle.flt_turn.specs.Seats.{ops_before}
 use Rattle.flt_turn.specs.declared.answer.Answer.{Answer}
 use Rattle.flt_turn.specs.declared.vault.Entry.{Entry}
-use Rattle.flt_life.specs.Actions.{action_of}
-use Rattle.flt_life.specs.Answers.{Told}
-use Rattle.flt_life.specs.Journal.{Journal}
+use Rattle.flt_life_model.specs.Actions.{action_of}
+use Rattle.flt_life_model.specs.Answers.{Told}
+use Rattle.flt_life_model.specs.Journal.{Journal}
 use Rattle.flt_fork.specs.Mixing.{Block, BlockTold, HasInOrder, IsToldInPlace, Mixes, asked_of, calls_in_block, calls_in_lane, ops_asked}
 use Rattle.flt_fork.specs.Mixing as mixing
-use Rattle.flt_life.specs.Played.{ActionMakes, ActionQueues, StepMakes, StepQueues, reply_after}
-use Rattle.flt_life.specs.declared.action.Action.{Action}
-use Rattle.flt_life.specs.declared.action.Action.TheVariants.{Call, Queue, Save, Drain, Get, Arm}
-use Rattle.flt_life.specs.declared.answer.StepAnswer.TheVariants as answered
+use Rattle.flt_life_model.specs.Played.{ActionMakes, ActionQueues, StepMakes, StepQueues, reply_after}
+use Rattle.flt_life_model.specs.declared.action.Action.{Action}
+use Rattle.flt_life_model.specs.declared.action.Action.TheVariants.{Call, Queue, Save, Drain, Get, Arm}
+use Rattle.flt_life_model.specs.declared.answer.StepAnswer.TheVariants as answered
 use Rattle.flt_report.specs.Answer.{reply_text}
 use Rattle.flt_trace.specs.Call.{CanBeMade, IsSaveCall}
 use Rattle.flt_trace.specs.Answered.{taken_text, with_lanes}

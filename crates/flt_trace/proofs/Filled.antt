@@ -5,8 +5,8 @@ use Rattle.std.proofs.lemmas.Bool.{cases_eq}
 use Rattle.std.proofs.lemmas.List.{ext_get_or, get_or-set_same, get_or-set_other, length-set}
 use Rattle.flt_turn.specs.declared.answer.Answer.{Answer}
 use Rattle.flt_model.specs.Reply.{Reply}
-use Rattle.flt_life.specs.Answers.{Told}
-use Rattle.flt_life.specs.declared.answer.StepAnswer.TheVariants.{Dem, Saved, SaveFailed, Queue, Drained, Bytes, NoBlock, BlockFlash, Armed, Dark}
+use Rattle.flt_life_model.specs.Answers.{Told}
+use Rattle.flt_life_model.specs.declared.answer.StepAnswer.TheVariants.{Dem, Saved, SaveFailed, Queue, Drained, Bytes, NoBlock, BlockFlash, Armed, Dark}
 use Rattle.flt_report.specs.Answer.{reply_text}
 use Rattle.flt_trace.specs.Answered.{with_told, with_lane, with_lanes}
 use Rattle.flt_trace.proofs.Each.{Each}

@@ -1,9 +1,9 @@
 -- The steps of a life, each with its answer, by what two machines made of them.
 use Rattle.std.proofs.Common.{◌≡◌, inl, inr, ℕ, ◌+◌, List, [], ◌∷◌, ◌++◌, length, take, drop, arith, refl, sym, ap, subst, ◌∙◌}
 use Rattle.std.proofs.lemmas.List.{take_at, drop_at, take-append-drop}
-use Rattle.flt_script.specs.Part.{PartOf}
+use Rattle.flt_step.specs.Part.{PartOf}
 use Rattle.flt_fork.specs.Making.{AreMadeBy, LanesMake}
-use Rattle.flt_life.specs.Making.{PartsMake}
+use Rattle.flt_life_model.specs.Making.{PartsMake}
 use Rattle.flt_fork.specs.Mixing.{Block, Call}
 use Rattle.flt_trace.proofs.Each.{Each, back_of, both, front_of}
 

@@ -2,10 +2,10 @@
 use Rattle.std.proofs.Common.{◌≡◌, ℕ, suc, ◌+◌, ◌<◌, List, length, drop, get_or, map, arith, ap, ◌∙◌}
 use Rattle.std.proofs.Math.Seq.{drop-cons}
 use Rattle.std.proofs.lemmas.List.{get_or-map, length-map}
-use Rattle.flt_life.specs.Answers.{KeptReply, told_by, with_reply, reply_in}
-use Rattle.flt_life.specs.Room.{told_in}
-use Rattle.flt_life.specs.declared.answer.StepAnswer.{StepAnswer}
-use Rattle.flt_life.specs.declared.replies.LaneReplies.{LaneReplies}
+use Rattle.flt_life_model.specs.Answers.{KeptReply, told_by, with_reply, reply_in}
+use Rattle.flt_life_model.specs.Room.{told_in}
+use Rattle.flt_life_model.specs.declared.answer.StepAnswer.{StepAnswer}
+use Rattle.flt_life_model.specs.declared.replies.LaneReplies.{LaneReplies}
 use Rattle.flt_trace.specs.Answered.{with_lane, with_lanes, with_told}
 
 -- One answer more of a lane.

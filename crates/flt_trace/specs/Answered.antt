@@ -2,10 +2,10 @@
 use Rattle.std.specs.Prelude.{ℕ, List, [], ◌∷◌, length, map, replicate, slice_set, codes}
 use Rattle.flt_model.specs.declared.call.Op.{Op}
 use Rattle.flt_turn.specs.declared.vault.Entry.{Entry}
-use Rattle.flt_life.specs.Answers.{Told}
-use Rattle.flt_life.specs.Room.{told_in}
-use Rattle.flt_life.specs.declared.answer.StepAnswer.TheVariants.{Dem}
-use Rattle.flt_life.specs.declared.replies.LaneReplies.{LaneReplies}
+use Rattle.flt_life_model.specs.Answers.{Told}
+use Rattle.flt_life_model.specs.Room.{told_in}
+use Rattle.flt_life_model.specs.declared.answer.StepAnswer.TheVariants.{Dem}
+use Rattle.flt_life_model.specs.declared.replies.LaneReplies.{LaneReplies}
 use Rattle.flt_report.specs.Answer.{reply_text}
 
 -- These texts with that of one answer more: a reply of the machine stands at the place that it was told.

@@ -4,8 +4,8 @@ use Rattle.hex.specs.Hex.{IsBytes, encode_upper}
 use Rattle.flt_config.specs.declared.config.Config.{Config}
 use Rattle.flt_config.specs.declared.persist.Persist.{Persist}
 use Rattle.flt_config.specs.Durable.{Fits}
-use Rattle.flt_generation.specs.Form.{block_bytes}
-use Rattle.flt_generation.specs.Layout.{is_used, used_ids}
+use Rattle.flt_store_model.specs.Form.{block_bytes}
+use Rattle.flt_store_model.specs.Layout.{is_used, used_ids}
 
 -- A block of a state as its bytes in hexadecimal digits, in upper case.
 abbrev pub block_text : Persist → ℕ → List ℕ

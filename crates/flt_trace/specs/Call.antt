@@ -7,12 +7,13 @@ use Rattle.flt_model.specs.declared.call.Op.{Op}
 use Rattle.flt_model.specs.declared.call.Op.TheVariants.{Snapshot, Saved}
 use Rattle.flt_model.specs.declared.call.Op.TheVariants as ops
 use Rattle.flt_turn.specs.declared.vault.Entry.{Entry}
-use Rattle.flt_script.specs.declared.step.Step.{Step}
-use Rattle.flt_script.specs.declared.step.Step.TheVariants as steps
+use Rattle.flt_step.specs.declared.step.Step.{Step}
+use Rattle.flt_step.specs.declared.step.Step.TheVariants as steps
 use Rattle.flt_script.specs.Alone.{step_in}
-use Rattle.flt_script.specs.Step.{is_step_in, step_text, with_number}
-use Rattle.flt_life.specs.declared.action.Action.TheVariants.{Call}
-use Rattle.flt_life.specs.Actions.{action_of}
+use Rattle.flt_step.specs.Step.{is_step_in}
+use Rattle.flt_step.specs.Words.{step_text, with_number}
+use Rattle.flt_life_model.specs.declared.action.Action.TheVariants.{Call}
+use Rattle.flt_life_model.specs.Actions.{action_of}
 
 -- This is the text of a step that makes this call: as the step is printed, and read by the grammar as that step within the configuration.
 pub record IsOfStep (c : Config) (op : Op) (text : List ℕ) : Type 0 where

@@ -4,14 +4,14 @@ use Rattle.flt_config.specs.declared.TheConstants.{EVENTS}
 use Rattle.flt_model.specs.Answer.{answers}
 use Rattle.flt_model.specs.Start.{Start}
 use Rattle.flt_queue.specs.declared.job.QueueOp.{QueueOp}
-use Rattle.flt_script.specs.Part.{PartOf}
-use Rattle.flt_script.specs.Step.{are_parts_in}
-use Rattle.flt_script.specs.declared.step.Step.{Step}
+use Rattle.flt_step.specs.Part.{PartOf}
+use Rattle.flt_step.specs.Step.{are_parts_in}
+use Rattle.flt_step.specs.declared.step.Step.{Step}
 use Rattle.flt_turn.specs.Journal.{ops_of}
 use Rattle.flt_turn.specs.declared.vault.Entry.{Entry}
-use Rattle.flt_life.specs.Answers.{Told}
-use Rattle.flt_life.specs.Journal.{Journal}
-use Rattle.flt_life.specs.Played.{IsLife}
+use Rattle.flt_life_model.specs.Answers.{Told}
+use Rattle.flt_life_model.specs.Journal.{Journal}
+use Rattle.flt_life_model.specs.Played.{IsLife}
 use Rattle.flt_report.specs.Answer.{reply_text}
 use Rattle.flt_trace.specs.Call.{CanBeMade}
 use Rattle.flt_trace.specs.Answered.{taken_text, with_lanes}

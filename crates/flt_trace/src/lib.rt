@@ -8,8 +8,8 @@
 //! - `answers`: the answers of the life, each at the place of its call: `answer_texts`. Its `laws` say that they are those of the machine's
 //!   answers to the calls of the journal, and that each of these calls can be printed.
 //!
-//! It stands on `serde_json` and `json` for the object, on `flt_image` and `hex` for blocks, on `flt_script` for the grammar of steps, on
-//! `flt_life` for lives and the call that a step makes, and on `flt_report` for the words of steps and answers. Read `specs/Trace.antt`
+//! It stands on `serde_json` and `json` for the object, on `flt_image` and `hex` for blocks, on `flt_step` for the words of
+//! steps, on `flt_script` for their grammar, on `flt_life_model` for lives and the call that a step makes, and on `flt_report` for the words of answers. Read `specs/Trace.antt`
 //! first, then `Base`, `Call` and `Answered`.
 #![tactic(auto)]
 
@@ -17,6 +17,7 @@ mod answers;
 mod base;
 mod journal;
 mod object;
+mod text;
 
 pub use answers::{answer_texts, laws};
 pub use base::{base_texts, read_base};

@@ -9,11 +9,11 @@ use Rattle.flt_model.specs.Start.{Start as Start, History, fresh}
 use Rattle.flt_model.specs.declared.call.Op.{Op}
 use Rattle.flt_turn.specs.declared.vault.Entry.{Entry}
 use Rattle.flt_turn.specs.Journal.{ops_of}
-use Rattle.flt_script.specs.declared.step.Step.{Step}
-use Rattle.flt_script.specs.Part.{PartOf}
-use Rattle.flt_life.specs.declared.life.Boot.{Boot}
-use Rattle.flt_life.specs.declared.life.Boot.TheVariants.{Started}
-use Rattle.flt_life.specs.declared.replies.LaneReplies.{LaneReplies}
+use Rattle.flt_step.specs.declared.step.Step.{Step}
+use Rattle.flt_step.specs.Part.{PartOf}
+use Rattle.flt_life_model.specs.declared.life.Boot.{Boot}
+use Rattle.flt_life_model.specs.declared.life.Boot.TheVariants.{Started}
+use Rattle.flt_life_model.specs.declared.replies.LaneReplies.{LaneReplies}
 use Rattle.flt_notify.specs.declared.table.SubTable.{SubTable}
 use Rattle.flt_notify.specs.Rows.{has_kind}
 use Rattle.flt_notify.specs.Table.{HasValuesOf, kinds_in, value_in, values_in}

@@ -8,16 +8,16 @@ use Rattle.std.proofs.lemmas.List.Sums.{sum_by-cons}
 use Rattle.flt_config.specs.declared.config.Config.{Config}
 use Rattle.flt_model.specs.declared.call.Op.{Op}
 use Rattle.flt_dcm.specs.Unit.{IsAdmitted}
-use Rattle.flt_script.specs.declared.step.Part.{Part}
-use Rattle.flt_script.specs.declared.step.Step.{Step}
-use Rattle.flt_script.specs.Part.{PartOf, parts_of}
-use Rattle.flt_script.specs.Step.{are_parts_in, lanes_of}
-use Rattle.flt_script.specs.Step as script
-use Rattle.flt_life.specs.declared.action.Action.{Action}
-use Rattle.flt_life.specs.declared.action.Action.TheVariants.{Call, Queue, Save, Drain, Get, Arm}
-use Rattle.flt_life.specs.Actions.{IsPossible, action_of}
-use Rattle.flt_life.specs.Lives.{lists}
-use Rattle.flt_life.specs.Parts.{IsPossibleInLane, IsPossiblePart, steps_in, widths}
+use Rattle.flt_step.specs.declared.step.Part.{Part}
+use Rattle.flt_step.specs.declared.step.Step.{Step}
+use Rattle.flt_step.specs.Part.{PartOf, parts_of}
+use Rattle.flt_step.specs.Step.{are_parts_in, lanes_of}
+use Rattle.flt_step.specs.Step as script
+use Rattle.flt_life_model.specs.declared.action.Action.{Action}
+use Rattle.flt_life_model.specs.declared.action.Action.TheVariants.{Call, Queue, Save, Drain, Get, Arm}
+use Rattle.flt_life_model.specs.Actions.{IsPossible, action_of}
+use Rattle.flt_life_model.specs.Lives.{lists}
+use Rattle.flt_life_model.specs.Parts.{IsPossibleInLane, IsPossiblePart, steps_in, widths}
 use Rattle.flt_report.proofs.Possible.{possible_lives, widths_same}
 use Rattle.flt_watch.specs.Asked.{all_watched, are_watched, is_call, is_watched, is_watched_part}
 use Rattle.flt_watch.specs.Block.{IsPartFor}

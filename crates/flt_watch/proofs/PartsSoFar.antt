@@ -5,16 +5,16 @@ use Rattle.std.specs.Vec.{vec_capacity}
 use Rattle.std.specs.List.{sum_by}
 use Rattle.std.proofs.lemmas.List.{append-nil, map-append, map_more, take-append-drop}
 use Rattle.std.proofs.lemmas.List.Sums.{sum_by-append, sum_by-cons, sum_by_push}
-use Rattle.flt_script.specs.declared.step.Part.{Part}
-use Rattle.flt_script.specs.declared.step.Step.{Step}
-use Rattle.flt_script.specs.Part.{PartOf, part_of, parts_of}
-use Rattle.flt_life.specs.declared.replies.LaneReplies.{LaneReplies}
-use Rattle.flt_life.specs.declared.room.LaneRoom.{LaneRoom}
-use Rattle.flt_life.specs.Answers.{Told}
-use Rattle.flt_life.specs.Parts.{calls_in, lanes_in, own_steps, width, widths}
-use Rattle.flt_life.specs.Played.{StepMakes}
-use Rattle.flt_life.specs.Room.{HasRoomForSteps, IsLaneRoom, steps_of, told_in}
-use Rattle.flt_life.proofs.Makings.{widths_more, widths-append}
+use Rattle.flt_step.specs.declared.step.Part.{Part}
+use Rattle.flt_step.specs.declared.step.Step.{Step}
+use Rattle.flt_step.specs.Part.{PartOf, part_of, parts_of}
+use Rattle.flt_life_model.specs.declared.replies.LaneReplies.{LaneReplies}
+use Rattle.flt_life_model.specs.declared.room.LaneRoom.{LaneRoom}
+use Rattle.flt_life_model.specs.Answers.{Told}
+use Rattle.flt_life_model.specs.Parts.{calls_in, lanes_in, own_steps, width, widths}
+use Rattle.flt_life_model.specs.Played.{StepMakes}
+use Rattle.flt_life_model.specs.Room.{HasRoomForSteps, IsLaneRoom, steps_of, told_in}
+use Rattle.flt_life_model.proofs.Makings.{widths_more, widths-append}
 use Rattle.flt_shared.specs.Call.{Seat, MayBeAsked, reply_after}
 use Rattle.flt_fork.specs.Lived.{IsMain}
 use Rattle.flt_lane.specs.Runs.{calls_by}

@@ -1,15 +1,15 @@
 -- A lane after some of its steps.
 use Rattle.std.proofs.Common.{◌≡◌, ℕ, ◌<◌, ◌≤◌, ◌+◌, List, [], ◌∷◌, ◌++◌, length, take, drop, get_or, arith, refl, sym, ap, subst, ◌∙◌}
 use Rattle.std.proofs.lemmas.List.{take_more, append-nil, append_assoc}
-use Rattle.flt_script.specs.declared.step.Step.{Step}
+use Rattle.flt_step.specs.declared.step.Step.{Step}
 use Rattle.flt_shared.specs.Call.{MayBeAsked, reply_after}
-use Rattle.flt_life.specs.Actions.{action_of, call_count}
-use Rattle.flt_life.specs.Answers.{Told}
-use Rattle.flt_life.specs.declared.action.Action.{Action}
-use Rattle.flt_life.specs.declared.action.Action.TheVariants.{Call}
+use Rattle.flt_life_model.specs.Actions.{action_of, call_count}
+use Rattle.flt_life_model.specs.Answers.{Told}
+use Rattle.flt_life_model.specs.declared.action.Action.{Action}
+use Rattle.flt_life_model.specs.declared.action.Action.TheVariants.{Call}
 use Rattle.flt_model.specs.declared.call.Op.{Op}
-use Rattle.flt_life.specs.Played.{StepMakes}
-use Rattle.flt_life.specs.Room.{HasRoomForSteps, told_in}
+use Rattle.flt_life_model.specs.Played.{StepMakes}
+use Rattle.flt_life_model.specs.Room.{HasRoomForSteps, told_in}
 use Rattle.flt_lane.specs.Stepped.{KeepsAnswer}
 use Rattle.flt_lane.specs.Runs.{Makes, calls_by}
 use Rattle.flt_lane.proofs.Running.{DemPart, next_step, sum_so_far, take_past}

@@ -6,10 +6,10 @@ use Rattle.flt_fork.specs.Passed.{HavePassed}
 use Rattle.flt_fork.specs.Seats.{IsSplitOff}
 use Rattle.flt_fork.proofs.Passed.{joined_seats, joins_on, passed_alone, passed_behind, passed_each, passed_same, split_main, split_seats, splits_on, splits_with}
 use Rattle.flt_shared.specs.Call.{Seat}
-use Rattle.flt_life.specs.Parts.{calls_of}
-use Rattle.flt_life.specs.declared.replies.LaneReplies.{LaneReplies}
-use Rattle.flt_life.specs.declared.room.LaneRoom.{LaneRoom}
-use Rattle.flt_life.specs.Room.{IsLaneRoom, steps_of, told_in}
+use Rattle.flt_life_model.specs.Parts.{calls_of}
+use Rattle.flt_life_model.specs.declared.replies.LaneReplies.{LaneReplies}
+use Rattle.flt_life_model.specs.declared.room.LaneRoom.{LaneRoom}
+use Rattle.flt_life_model.specs.Room.{IsLaneRoom, steps_of, told_in}
 use Rattle.flt_lane.specs.Room.{all_calls}
 use Rattle.flt_lane.proofs.Seating.{all_of_first, first_fits, none_told, room_same}
 use Rattle.flt_watch.specs.declared.lane.WatchLane.{WatchLane}

@@ -3,10 +3,10 @@ use Rattle.std.proofs.Common.{◌≡◌, ◌==◌, Bool, true, false, List, [], 
 use Rattle.std.specs.Prelude.{Vec, ◌&&◌}
 use Rattle.std.specs.List.{list_all}
 use Rattle.std.proofs.lemmas.List.Folds.{list_all-map}
-use Rattle.flt_script.specs.declared.step.Part.{Part}
-use Rattle.flt_script.specs.declared.step.Step.{Step}
-use Rattle.flt_script.specs.Part.{part_of, parts_of}
-use Rattle.flt_life.specs.Lives.{lists}
+use Rattle.flt_step.specs.declared.step.Part.{Part}
+use Rattle.flt_step.specs.declared.step.Step.{Step}
+use Rattle.flt_step.specs.Part.{part_of, parts_of}
+use Rattle.flt_life_model.specs.Lives.{lists}
 use Rattle.flt_watch.specs.Asked.{all_watched, are_watched, is_watched, is_watched_part}
 
 and_true : (b : Bool) → b ≡ (b && true)

@@ -1,11 +1,11 @@
 -- The lanes of a block, out of what each lane did.
 use Rattle.std.proofs.Common.{List, ◌++◌, map, get_or, sym, ap, subst, ◌∙◌}
-use Rattle.flt_script.specs.declared.step.Step.{Step}
+use Rattle.flt_step.specs.declared.step.Step.{Step}
 use Rattle.flt_shared.specs.Call.{Seat, MayBeAsked, reply_after}
-use Rattle.flt_life.specs.Answers.{Told}
-use Rattle.flt_life.specs.Parts.{calls_of}
-use Rattle.flt_life.specs.Played.{StepMakes}
-use Rattle.flt_life.specs.Room.{told_in}
+use Rattle.flt_life_model.specs.Answers.{Told}
+use Rattle.flt_life_model.specs.Parts.{calls_of}
+use Rattle.flt_life_model.specs.Played.{StepMakes}
+use Rattle.flt_life_model.specs.Room.{told_in}
 use Rattle.flt_lane.specs.Runs.{RunsSteps, calls_by}
 use Rattle.flt_fork.specs.Lived.{IsMain}
 use Rattle.flt_fork.specs.Runs.{HasRunBlock}

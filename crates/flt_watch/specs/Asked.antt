@@ -6,13 +6,13 @@ use Rattle.std.proofs.Common.{inl, inr}
 use Rattle.flt_io.specs.Fault.{Rose}
 use Rattle.flt_config.specs.declared.config.DidUse.{DidUse}
 use Rattle.flt_did.specs.Serves.{Serves}
-use Rattle.flt_script.specs.declared.step.Step.{Step}
-use Rattle.flt_script.specs.Part.{PartOf}
+use Rattle.flt_step.specs.declared.step.Step.{Step}
+use Rattle.flt_step.specs.Part.{PartOf}
 use Rattle.flt_script.specs.Script.{ScriptContent, content}
-use Rattle.flt_life.specs.declared.action.Action.{Action}
-use Rattle.flt_life.specs.declared.action.Action.TheVariants.{Call}
-use Rattle.flt_life.specs.Actions.{action_of}
-use Rattle.flt_report.specs.Fetched.{AreNoScript, AreScript, HasLostRead}
+use Rattle.flt_life_model.specs.declared.action.Action.{Action}
+use Rattle.flt_life_model.specs.declared.action.Action.TheVariants.{Call}
+use Rattle.flt_life_model.specs.Actions.{action_of}
+use Rattle.flt_script.specs.Fetched.{AreNoScript, AreScript, HasLostRead}
 use Rattle.flt_watch.specs.declared.asking.Asked.{Asked}
 use Rattle.flt_watch.specs.declared.asking.Asked.TheVariants.{Watch, Other, Refused, Unread, Memory}
 

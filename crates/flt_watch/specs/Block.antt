@@ -1,14 +1,13 @@
 -- What a part of a life leaves of the main seat.
-use Rattle.std.specs.Prelude.{◌≡◌, List, [], ◌∷◌, ◌++◌}
+use Rattle.std.specs.Prelude.{◌≡◌, List, [], ◌∷◌, ◌++◌, All}
 use Rattle.std.proofs.Common.{inl, inr}
 use Rattle.flt_config.specs.declared.config.Config.{Config}
-use Rattle.std.specs.Prelude.{All}
 use Rattle.flt_fork.specs.Runs.{HasRunBlock}
-use Rattle.flt_script.specs.declared.step.Step.{Step}
-use Rattle.flt_script.specs.Part.{PartOf}
+use Rattle.flt_step.specs.declared.step.Step.{Step}
+use Rattle.flt_step.specs.Part.{PartOf}
 use Rattle.flt_shared.specs.Call.{Seat, reply_after}
-use Rattle.flt_life.specs.Answers.{Told}
-use Rattle.flt_life.specs.Played.{StepMakes}
+use Rattle.flt_life_model.specs.Answers.{Told}
+use Rattle.flt_life_model.specs.Played.{StepMakes}
 use Rattle.flt_lane.specs.Block.{HasRunPart, HasRunParts}
 use Rattle.flt_lane.specs.Runs.{Makes}
 use Rattle.flt_watch.specs.Lane.{IsLaneFor, IsWatchable}

@@ -3,14 +3,14 @@ use Rattle.std.specs.Prelude.{◌≡◌, ◌<◌, ◌≤◌, ◌++◌, ℕ, List
 use Rattle.flt_config.specs.declared.config.Config.{Config}
 use Rattle.flt_dcm.specs.Unit.{IsAdmitted}
 use Rattle.flt_model.specs.declared.call.Op.{Op}
-use Rattle.flt_script.specs.declared.step.Step.{Step}
+use Rattle.flt_step.specs.declared.step.Step.{Step}
 use Rattle.flt_turn.specs.Seats as turn
 use Rattle.flt_shared.specs.Call.{Seat}
-use Rattle.flt_life.specs.declared.action.Action.TheVariants.{Call}
-use Rattle.flt_life.specs.Actions.{action_of}
-use Rattle.flt_life.specs.Answers.{Told}
-use Rattle.flt_life.specs.Parts.{calls_of}
-use Rattle.flt_life.specs.Room.{HasRoomForSteps, told_in}
+use Rattle.flt_life_model.specs.declared.action.Action.TheVariants.{Call}
+use Rattle.flt_life_model.specs.Actions.{action_of}
+use Rattle.flt_life_model.specs.Answers.{Told}
+use Rattle.flt_life_model.specs.Parts.{calls_of}
+use Rattle.flt_life_model.specs.Room.{HasRoomForSteps, told_in}
 use Rattle.flt_lane.specs.Runs.{RunsSteps}
 use Rattle.flt_watch.specs.declared.lane.WatchLane.{WatchLane}
 use Rattle.flt_watch.specs.declared.lock.WatchLock.{WatchLock}

@@ -3,13 +3,13 @@ use Rattle.std.specs.Prelude.{◌≡◌, ◌+◌, List, [], ◌++◌, All, lengt
 use Rattle.flt_turn.specs.Seats.{joined_seat}
 use Rattle.flt_fork.specs.Passed.{AreSplit, CanSplit, IsMainOf, Splits}
 use Rattle.flt_fork.specs.Seats.{AreJoined, IsSplitOff}
-use Rattle.flt_script.specs.declared.step.Step.{Step}
-use Rattle.flt_life.specs.Answers.{Told}
+use Rattle.flt_step.specs.declared.step.Step.{Step}
+use Rattle.flt_life_model.specs.Answers.{Told}
 use Rattle.flt_shared.specs.Call.{Seat}
-use Rattle.flt_life.specs.declared.replies.LaneReplies.{LaneReplies}
-use Rattle.flt_life.specs.declared.room.LaneRoom.{LaneRoom}
-use Rattle.flt_life.specs.Parts.{calls_of}
-use Rattle.flt_life.specs.Room.{IsLaneRoom, steps_of, told_in}
+use Rattle.flt_life_model.specs.declared.replies.LaneReplies.{LaneReplies}
+use Rattle.flt_life_model.specs.declared.room.LaneRoom.{LaneRoom}
+use Rattle.flt_life_model.specs.Parts.{calls_of}
+use Rattle.flt_life_model.specs.Room.{IsLaneRoom, steps_of, told_in}
 use Rattle.flt_lane.specs.Room.{all_calls}
 use Rattle.flt_watch.specs.declared.lane.WatchLane.{WatchLane}
 use Rattle.flt_watch.specs.declared.lock.WatchLock.{WatchLock}

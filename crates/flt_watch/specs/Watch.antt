@@ -6,14 +6,14 @@ use Rattle.flt_config.specs.declared.config.DidUse.{DidUse}
 use Rattle.flt_config.specs.declared.persist.Persist.{Persist}
 use Rattle.flt_config.specs.Durable.{initial_state}
 use Rattle.flt_script.specs.declared.fault.ScriptFault.{ScriptFault}
-use Rattle.flt_script.specs.declared.step.Step.{Step}
-use Rattle.flt_script.specs.Part.{PartOf}
+use Rattle.flt_step.specs.declared.step.Step.{Step}
+use Rattle.flt_step.specs.Part.{PartOf}
 use Rattle.flt_script.specs.Script.{ScriptContent}
-use Rattle.flt_life.specs.declared.life.Boot.TheVariants.{Started}
+use Rattle.flt_life_model.specs.declared.life.Boot.TheVariants.{Started}
 use Rattle.flt_notify.specs.Table.{kinds_in, value_in, values_in}
 use Rattle.flt_filter.specs.Verdict.{Due, Inside, IsTold, Outside}
-use Rattle.flt_report.specs.Boot.{script_fault_line, unread_line}
-use Rattle.flt_report.specs.Fetched.{AreNoScript, AreScript, HasLostRead}
+use Rattle.flt_script.specs.Fault.{script_fault_line, unread_line}
+use Rattle.flt_script.specs.Fetched.{AreNoScript, AreScript, HasLostRead}
 use Rattle.flt_io.specs.declared.stream.StreamFault.{StreamFault}
 use Rattle.flt_io.specs.declared.stream.StreamFault.TheVariants.{Memory, Failed}
 use Rattle.flt_watch.specs.Asked.{is_watchable}

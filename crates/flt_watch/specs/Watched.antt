@@ -5,12 +5,12 @@ use Rattle.flt_model.specs.Start.{fresh}
 use Rattle.flt_model.specs.declared.call.Op.{Op}
 use Rattle.flt_turn.specs.declared.vault.Entry.{Entry}
 use Rattle.flt_turn.specs.Journal.{ops_of}
-use Rattle.flt_script.specs.declared.step.Step.{Step}
-use Rattle.flt_script.specs.Part.{PartOf}
-use Rattle.flt_life.specs.declared.life.Life.{Life}
-use Rattle.flt_life.specs.declared.replies.LaneReplies.{LaneReplies}
-use Rattle.flt_life.specs.Lives.{lanes_told, own_told}
-use Rattle.flt_life.specs.Played.{IsMade, StepMakes}
+use Rattle.flt_step.specs.declared.step.Step.{Step}
+use Rattle.flt_step.specs.Part.{PartOf}
+use Rattle.flt_life_model.specs.declared.life.Life.{Life}
+use Rattle.flt_life_model.specs.declared.replies.LaneReplies.{LaneReplies}
+use Rattle.flt_life_model.specs.Lives.{lanes_told, own_told}
+use Rattle.flt_life_model.specs.Played.{IsMade, StepMakes}
 use Rattle.flt_shared.specs.Call.{reply_after}
 use Rattle.flt_notify.specs.declared.table.SubTable.{SubTable}
 use Rattle.flt_notify.specs.Table.{HasValuesOf}

@@ -2,15 +2,15 @@
 ghost use Rattle.std.specs.Prelude.{◌≡◌};
 ghost use Rattle.std.specs.List.{list_all};
 ghost use Rattle.flt_did.specs.Table.{dids_of};
-ghost use Rattle.flt_script.specs.Part.{part_of};
+ghost use Rattle.flt_step.specs.Part.{part_of};
 ghost use Rattle.flt_script.specs.Script.{content};
 ghost use Rattle.flt_watch.specs.Asked.{IsAsked, is_watchable, is_watched, is_watched_part};
 
 use flt_did::{DID_ROWS, DidTable};
 use flt_io::Source;
-use flt_life::{Action, action_of};
-use flt_report::{Fetched, fetch};
-use flt_script::{Part, Script, ScriptFault, Step};
+use flt_life_model::{Action, action_of};
+use flt_script::{Fetched, Script, ScriptFault, fetch};
+use flt_step::{Part, Step};
 use std::alloc::Global;
 
 /// What a watch is asked.

@@ -1,7 +1,7 @@
 //! One lane, and the lanes of a block at once.
 ghost use Rattle.std.specs.Prelude.{◌≡◌, ◌≤◌, All, length};
-ghost use Rattle.flt_life.specs.Actions.{action_of, response_size};
-ghost use Rattle.flt_life.specs.Answers.{told_size, told_with};
+ghost use Rattle.flt_life_model.specs.Actions.{action_of, response_size};
+ghost use Rattle.flt_life_model.specs.Answers.{told_size, told_with};
 ghost use Rattle.flt_lane.specs.Runs.{Makes};
 ghost use Rattle.flt_watch.specs.Lane.{HasRun, HaveRun, IsPrepared, IsSeatOf, IsWatchable};
 
@@ -9,10 +9,10 @@ use crate::lock::{WatchLock, WatchSeat};
 use arrayvec::ArrayVec;
 use flt_fork::{Work, work_beside};
 use flt_lane::Gate;
-use flt_life::{Action, LaneReplies, StepAnswer, action_of};
+use flt_life_model::{Action, LaneReplies, StepAnswer, action_of};
 use flt_model::RESPONSE;
-use flt_script::Step;
 use flt_shared::ReplyKind;
+use flt_step::Step;
 use std::marker::Sync;
 use std::sync::Wait;
 use std::thread::Threads;

@@ -2,10 +2,10 @@
 ghost use Rattle.std.specs.Prelude.{◌≡◌, ◌<◌, ◌≤◌, ◌+◌, ◌^◌, ◌++◌, ◌∷◌, [], List, All, OnOk, length, map, sum_by, vec_len};
 ghost use Rattle.std.specs.Vec.{vec_capacity};
 ghost use Rattle.flt_fork.specs.Lived.{IsMain};
-ghost use Rattle.flt_script.specs.Part.{PartOf, part_of, parts_of};
-ghost use Rattle.flt_script.specs.declared.step.Step.{Step};
-ghost use Rattle.flt_life.specs.Parts.{calls_in, lanes_in, own_steps, width, widths};
-ghost use Rattle.flt_life.specs.Room.{HasRoomForSteps, IsLaneRoom, steps_of, told_in};
+ghost use Rattle.flt_step.specs.Part.{PartOf, part_of, parts_of};
+ghost use Rattle.flt_step.specs.declared.step.Step.{Step};
+ghost use Rattle.flt_life_model.specs.Parts.{calls_in, lanes_in, own_steps, width, widths};
+ghost use Rattle.flt_life_model.specs.Room.{HasRoomForSteps, IsLaneRoom, steps_of, told_in};
 ghost use Rattle.flt_watch.specs.Block.{Gains, HasStepped, HaveRunParts, IsPartFor};
 ghost use Rattle.flt_watch.specs.Lane.{IsSeatOf, IsWatchable};
 
@@ -13,8 +13,8 @@ use crate::block::run_block;
 use crate::lane::make_call;
 use crate::lock::{WatchLock, WatchSeat};
 use flt_lane::{Gate, LifeAnswers, next_lanes};
-use flt_life::LaneRoom;
-use flt_script::{Part, Step};
+use flt_life_model::LaneRoom;
+use flt_step::{Part, Step};
 use std::alloc::{AllocError, Global};
 use std::marker::Sync;
 use std::sync::Wait;

@@ -3,9 +3,9 @@ ghost use Rattle.std.specs.Prelude.{◌≡◌, ◌≢◌, ◌<◌, ◌+◌, ◌^
 ghost use Rattle.std.specs.String.{string_bytes};
 ghost use Rattle.flt_io.specs.Written.{Writes};
 ghost use Rattle.flt_restore.specs.declared.fault.StartFault.TheVariants.{Flash};
-ghost use Rattle.flt_script.specs.Part.{parts_of};
-ghost use Rattle.flt_life.specs.declared.life.Boot.TheVariants.{Refused};
-ghost use Rattle.flt_life.specs.Parts.{widths};
+ghost use Rattle.flt_step.specs.Part.{parts_of};
+ghost use Rattle.flt_life_model.specs.declared.life.Boot.TheVariants.{Refused};
+ghost use Rattle.flt_life_model.specs.Parts.{widths};
 ghost use Rattle.flt_notify.specs.Table.{value_in};
 ghost use Rattle.flt_watch.specs.Text.{other_line, value_line, value_text, values_text, watch_text};
 
@@ -13,7 +13,7 @@ use crate::life::WatchedLife;
 use flt_io::{Sink, StreamFault};
 use flt_notify::{KINDS, SubTable};
 use flt_report::{write_life, write_text};
-use flt_script::Part;
+use flt_step::Part;
 use std::alloc::{AllocError, Global};
 
 const OTHER: &[u8] = b"script other\n";

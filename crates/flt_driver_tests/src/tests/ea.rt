@@ -4,6 +4,7 @@ ghost use Rattle.flt_ea.specs.Memory.{state_of as device_state};
 ghost use Rattle.flt_ea.specs.Ea.{state_of};
 
 mod cuts;
+mod order;
 mod rows;
 
 use super::*;

@@ -67,12 +67,8 @@ fn has_event(dem: &Dem, event: u16) -> bool
 
 fn event(number: u16) -> EventCfg {
     EventCfg {
-        dtc: number as u32 + 1,
         priority: priority_of(number),
-        confirm: 1,
-        heal: 3,
-        age: 40,
-        ..EventCfg::default()
+        ..EventCfg::new(number as u32 + 1)
     }
 }
 

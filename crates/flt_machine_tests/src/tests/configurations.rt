@@ -7,24 +7,6 @@ use flt_config::{
     ValidConfig, check, fits, initial, needed_pages,
 };
 
-fn event(dtc: u32) -> EventCfg
-    requires { dtc < 1000 }
-    ensures { result.dtc ≡ dtc }
-{
-    EventCfg {
-        dtc,
-        priority: 1,
-        cycle: 0,
-        confirm: 1,
-        heal: 3,
-        age: 40,
-        indicator: false,
-        needs: 0,
-        debounce: Default::default(),
-        dids: ArrayVec::new(),
-    }
-}
-
 fn config(pages: u16, events: ArrayVec<EventCfg, EVENTS>) -> Config {
     Config {
         id: 0,
@@ -40,7 +22,7 @@ fn full() -> ArrayVec<EventCfg, EVENTS> {
     let mut events = ArrayVec::new();
     for dtc in 0..EVENTS as u32 {
         if !events.is_full() && dtc < 999 {
-            events.push(event(dtc + 1));
+            events.push(EventCfg::new(dtc + 1));
         }
     }
     events
@@ -64,8 +46,8 @@ fn fault_of(pages: u16, events: ArrayVec<EventCfg, EVENTS>) -> Option<CfgFault> 
 #[test]
 fn the_first_fault_is_told(rt: HostRuntime) {
     let mut events = ArrayVec::new();
-    events.push(event(1));
-    events.push(event(1));
+    events.push(EventCfg::new(1));
+    events.push(EventCfg::new(1));
     let (first, second) = (0, 1);
     assert!(&rt; fault_of(512, events) == Some(CfgFault::DtcTwice { first, second }));
     let range = CfgFault::Range {
@@ -86,13 +68,13 @@ fn three() -> Config {
         id: 0x0101,
         width: 2,
     });
-    events.push(event(1));
+    events.push(EventCfg::new(1));
     events.push(EventCfg {
         indicator: true,
         dids,
-        ..event(2)
+        ..EventCfg::new(2)
     });
-    events.push(event(3));
+    events.push(EventCfg::new(3));
     Config {
         memory: 2,
         ..config(512, events)

@@ -26,13 +26,8 @@ fn configured() -> Config {
     let _full = dids.try_extend_from_slice(&USES);
     let mut events = ArrayVec::new();
     events.push(EventCfg {
-        dtc: 0x123456,
-        priority: 1,
-        confirm: 1,
-        heal: 3,
-        age: 40,
         dids,
-        ..EventCfg::default()
+        ..EventCfg::new(0x123456)
     });
     Config {
         id: 0,

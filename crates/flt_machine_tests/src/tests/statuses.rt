@@ -9,7 +9,7 @@ fn slowest() -> EventCfg {
         heal: 255,
         age: 255,
         indicator: true,
-        ..EventCfg::default()
+        ..EventCfg::new(1)
     }
 }
 
@@ -58,7 +58,7 @@ fn counts_stop_at_their_ends(rt: HostRuntime) {
 fn a_displaced_event_fails_anew_and_a_cleared_one_is_untested(rt: HostRuntime) {
     let rules = EventCfg {
         indicator: true,
-        ..EventCfg::default()
+        ..EventCfg::new(1)
     };
     let mut state = UNTESTED;
     let _aged = cycle(&rules, &mut state);

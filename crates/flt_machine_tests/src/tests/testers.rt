@@ -13,14 +13,7 @@ use flt_model::{REQUEST, Report};
 /// A configuration of one event, of DTC 123456.
 fn configured() -> Config {
     let mut events = ArrayVec::new();
-    events.push(EventCfg {
-        dtc: 0x123456,
-        priority: 1,
-        confirm: 1,
-        heal: 3,
-        age: 40,
-        ..EventCfg::default()
-    });
+    events.push(EventCfg::new(0x123456));
     Config {
         id: 0,
         memory: 16,

@@ -1,7 +1,7 @@
 //! Worked examples of the definitions of the status machine, which the checker computes. The values that are expected are not made by these
 //! definitions: an independent program gives them.
 ghost use Rattle.flt_machine_tests.specs.StatusExamples.{ConfirmsOncePerCycle, AgesAtExactlyItsThreshold, EachCycleStarts};
-ghost use Rattle.flt_machine_tests.specs.ConditionExamples.{EachConditionCounts, DisabledEventIsEndedAndCleared};
+ghost use Rattle.flt_machine_tests.specs.ConditionExamples.{EachConditionCounts, DisabledEventIsEndedAndCleared, CallsOnADisabledEvent};
 ghost use Rattle.flt_machine_tests.specs.DebounceExamples.{TendingFailureQualifiesAgain, TicksLeaveCounters};
 ghost use Rattle.flt_machine_tests.specs.SettingExamples.{OtherRequestsKeepTheHold, EachFormOfASetting};
 ghost use Rattle.flt_machine_tests.specs.ListExamples.{ListsOfManyDtcs, ValuesOfIdentifiers};
@@ -29,6 +29,11 @@ pub fn each_condition_counts()
 /// Operation cycles and clears reach a disabled event.
 pub fn disabled_event_is_ended_and_cleared()
     ensures { DisabledEventIsEndedAndCleared }
+{}
+
+/// Reports, shows, ticks and cycles of others do not add to what happened to a disabled event; its own cycle does.
+pub fn calls_on_a_disabled_event()
+    ensures { CallsOnADisabledEvent }
 {}
 
 /// A tending report that leaves a counter at its threshold qualifies again.

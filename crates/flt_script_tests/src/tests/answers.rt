@@ -1,6 +1,6 @@
 use flt_dcm::ReplyKind;
-use flt_life::*;
-use flt_script::{Part, Step};
+use flt_life_model::*;
+use flt_step::{Part, Step};
 use std::test::Fail;
 
 #[test]

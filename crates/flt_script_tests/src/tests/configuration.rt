@@ -1,4 +1,5 @@
 use super::*;
+use arrayvec::ArrayVec;
 use flt_config::{Config, Debounce, DidUse, EventCfg};
 
 /// Whether a configuration has these settings.
@@ -32,7 +33,7 @@ fn first_event() -> EventCfg {
         indicator: true,
         needs: 255,
         debounce: Debounce::Time { fail: 10, pass: 5 },
-        ..EventCfg::default()
+        dids: ArrayVec::new(),
     }
 }
 
@@ -41,11 +42,27 @@ pub(super) fn plain_event(dtc: u32) -> EventCfg {
     EventCfg {
         dtc,
         priority: 1,
+        cycle: 0,
         confirm: 1,
         heal: 3,
         age: 40,
-        ..EventCfg::default()
+        indicator: false,
+        needs: 0,
+        debounce: Debounce::Counter {
+            fail_at: 1,
+            pass_at: -1,
+            up: 1,
+            down: 1,
+            jump_up: None,
+            jump_down: None,
+        },
+        dids: ArrayVec::new(),
     }
+}
+
+#[test]
+fn an_event_is_new_as_a_line_writes_it(rt: HostRuntime) {
+    assert!(&rt; EventCfg::new(10) == plain_event(10));
 }
 
 /// The debouncing and the data identifiers of the second event.

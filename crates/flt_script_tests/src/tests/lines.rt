@@ -1,17 +1,18 @@
 //! The lines of the report, written by hand.
 ghost use Rattle.std.specs.Prelude.{◌≢◌};
-ghost use Rattle.flt_life.specs.Answers.{IsAnswerWithin};
+ghost use Rattle.flt_life_model.specs.Answers.{IsAnswerWithin};
 ghost use Rattle.flt_restore.specs.declared.fault.StartFault.TheVariants as faults;
 
 use arrayvec::ArrayVec;
 use flt_config::{CfgFault, Persist};
-use flt_generation::{Mark, Place};
-use flt_life::{Answer, Boot, KeptReply, KeptResponse, StepAnswer};
+use flt_life_model::{Answer, Boot, KeptReply, KeptResponse, StepAnswer};
 use flt_model::{Cause, REQUEST, Report, Shown};
-use flt_report::{put_boot, put_end, put_lane, put_par, put_script_fault, put_step};
+use flt_report::{put_boot, put_end, put_lane, put_par, put_step};
 use flt_restore::StartFault;
-use flt_script::{LineCause, ScriptFault, Step};
+use flt_script::{LineCause, ScriptFault, put_script_fault};
+use flt_step::Step;
 use flt_store::SaveFault;
+use flt_store_model::{Mark, Place};
 use std::alloc::{AllocError, Global};
 use std::test::Fail;
 

@@ -1,15 +1,15 @@
 use arrayvec::ArrayVec;
 use flt_config::{Config, EventCfg};
 use flt_flash::{Arm, Pattern};
-use flt_life::are_possible;
-use flt_script::{Part, Step};
+use flt_life_model::are_possible;
+use flt_step::{Part, Step};
 use std::alloc::{AllocError, Global};
 use std::test::Fail;
 
 /// A configuration of one event and two application blocks.
 fn small() -> Config {
     let mut events = ArrayVec::new();
-    events.push(EventCfg::default());
+    events.push(EventCfg::new(1));
     Config {
         id: 0,
         memory: 16,

@@ -1,5 +1,5 @@
-use flt_life::CallRoom;
-use flt_script::{Part, Step};
+use flt_life_model::CallRoom;
+use flt_step::{Part, Step};
 use std::test::Fail;
 
 #[test]

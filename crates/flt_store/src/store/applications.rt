@@ -5,8 +5,8 @@ ghost use Rattle.flt_nvm.specs.Driver.{driver_of as driver_beneath, table_of};
 ghost use Rattle.flt_flash.specs.Calls.{SameValues};
 ghost use Rattle.flt_nvm.specs.Leaves.{FlashTakesThree, Gives, GotOf};
 ghost use Rattle.flt_nvm.specs.Tries.{ReadsAlone};
-ghost use Rattle.flt_generation.specs.Form.{application_length};
-ghost use Rattle.flt_generation.specs.Layout.{applications, application_number};
+ghost use Rattle.flt_store_model.specs.Form.{application_length};
+ghost use Rattle.flt_store_model.specs.Layout.{applications, application_number};
 ghost use Rattle.flt_image.specs.Table.{block_table};
 ghost use Rattle.flt_store.specs.Cause.{Writes};
 
@@ -14,8 +14,8 @@ use super::Store;
 use crate::fault::PutFault;
 use arrayvec::ArrayVec;
 use flt_flash::{BlockFault, Blocks, FlashFailed};
-use flt_generation::{APPLICATION_LENGTH, FIRST_APPLICATION};
 use flt_nvm::{Got, Nvm};
+use flt_store_model::{APPLICATION_LENGTH, FIRST_APPLICATION};
 
 /// The bytes, behind those that stand.
 fn push_all(bytes: &[u8], out: &mut ArrayVec<u8, APPLICATION_LENGTH>)

@@ -5,11 +5,11 @@ ghost use Rattle.flt_flash.specs.Calls.{Follows, OthersKept, SameImage};
 ghost use Rattle.flt_nvm.specs.Driver.{driver_of as driver_beneath, table_of};
 ghost use Rattle.flt_config.specs.declared.config.Config.{Config};
 ghost use Rattle.flt_config.specs.Durable.{Fits};
-ghost use Rattle.flt_generation.specs.Layout.{mark_number};
-ghost use Rattle.flt_generation.specs.Form.{mark_of};
-ghost use Rattle.flt_generation.specs.Excess.{IsBorne};
-ghost use Rattle.flt_generation.specs.Holding.{Generation, IsSound, MarkAllows, OldOrNew, SameApplications};
-ghost use Rattle.flt_generation.specs.Laws.{IsGiven};
+ghost use Rattle.flt_store_model.specs.Layout.{mark_number};
+ghost use Rattle.flt_store_model.specs.Form.{mark_of};
+ghost use Rattle.flt_store_model.specs.Excess.{IsBorne};
+ghost use Rattle.flt_store_model.specs.Holding.{Generation, IsSound, MarkAllows, OldOrNew, SameApplications};
+ghost use Rattle.flt_store_model.specs.Laws.{IsGiven};
 ghost use Rattle.flt_image.specs.Table.{block_table};
 ghost use Rattle.flt_restore.specs.Restored.{IsMarkDue};
 ghost use Rattle.flt_restore.specs.Unread.{IsImageUnread};
@@ -22,10 +22,10 @@ ghost use Rattle.flt_store.specs.Spent.{IsBegunStuck, IsMarkStuck, IsOutOfNumber
 use super::{Store, number_in};
 use flt_config::{Persist, ValidConfig};
 use flt_flash::{BlockFault, Blocks};
-use flt_generation::{COMMIT_ID, MARK_ID};
 use flt_image::{Commit, Mark, mark_of, put_mark};
 use flt_nvm::Nvm;
 use flt_restore::{CommitCopy, StartFault, restore};
+use flt_store_model::{COMMIT_ID, MARK_ID};
 
 /// Writes the mark of a configuration where it is due: where it is missing or of version 1.
 fn write_mark<B: Blocks + Drop>(

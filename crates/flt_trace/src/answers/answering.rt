@@ -1,24 +1,25 @@
 //! The texts of the answers of a life.
 ghost use Rattle.std.specs.Prelude.{◌≡◌, IfOk, OnOk, length, map, replicate, slice_set};
 ghost use Rattle.std.specs.String.{string_bytes};
-ghost use Rattle.flt_life.specs.Answers.{IsAnswerWithin, IsReplyWithin, reply_in, with_reply};
-ghost use Rattle.flt_life.specs.Room.{told_in};
+ghost use Rattle.flt_life_model.specs.Answers.{IsAnswerWithin, IsReplyWithin, reply_in, with_reply};
+ghost use Rattle.flt_life_model.specs.Room.{told_in};
 ghost use Rattle.flt_report.specs.Answer.{reply_text};
 ghost use Rattle.flt_trace.specs.Answered.{answer_texts, taken_text, with_lane, with_lanes, with_told};
 
-use flt_life::{Entry, KeptReply, LaneReplies, StepAnswer};
+use crate::text::text_of;
+use flt_life_model::{Entry, KeptReply, LaneReplies, StepAnswer};
 use flt_model::Op;
 use flt_report::put_kept_reply;
 use std::alloc::{AllocError, Global};
 
 /// The text of a reply of a lane, whose response stands among these bytes.
-fn text_of(alloc: Global, reply: &KeptReply, responses: &[u8]) -> Result<String, AllocError>
+fn reply_text(alloc: Global, reply: &KeptReply, responses: &[u8]) -> Result<String, AllocError>
     requires { IsReplyWithin (length responses.now) reply.now }
     ensures { IfOk result (λ text. string_bytes text ≡ reply_text (reply_in responses.now reply.now)) }
 {
     let mut text = Vec::new(alloc);
     put_kept_reply(reply, responses, &mut text)?;
-    String::from_utf8(text).ok().ok_or(AllocError)
+    text_of(text)
 }
 
 /// Puts a text at a place, if there is such a place.
@@ -41,7 +42,7 @@ fn put_told(
     ensures { OnOk result (map string_bytes texts.new.items ≡ with_told (map string_bytes texts.old.items) (with_reply (reply_in responses.now) answer.now)) }
 {
     if let StepAnswer::Dem(told) = answer {
-        let text = text_of(alloc, &told.reply, responses)?;
+        let text = reply_text(alloc, &told.reply, responses)?;
         put_at(texts, told.place as usize, text);
     }
     Ok(())

@@ -3,13 +3,13 @@ ghost use Rattle.std.specs.Prelude.{◌≡◌, ℕ, IfOk, IsTrue, map};
 ghost use Rattle.std.specs.String.{string_bytes};
 ghost use Rattle.hex.specs.Hex.{IsBytes, encode_upper};
 ghost use Rattle.flt_config.specs.Durable.{Fits};
-ghost use Rattle.flt_generation.specs.Form.{block_bytes};
-ghost use Rattle.flt_generation.specs.Layout.{is_used};
+ghost use Rattle.flt_store_model.specs.Form.{block_bytes};
+ghost use Rattle.flt_store_model.specs.Layout.{is_used};
 ghost use Rattle.flt_trace.specs.Base.{IsBaseOf, block_text};
 
 use flt_config::{Persist, ValidConfig};
-use flt_generation::{END_PART, FIRST_PART};
 use flt_image::{BlockBytes, is_used, put_block};
+use flt_store_model::{END_PART, FIRST_PART};
 use std::alloc::{AllocError, Global};
 
 /// The text of bytes.

@@ -9,8 +9,8 @@ ghost use Rattle.flt_trace.specs.Base.{IsBaseOf};
 
 use crate::base::printing::base_texts;
 use flt_config::{Persist, ValidConfig, fits, initial};
-use flt_generation::{END_PART, FIRST_PART};
 use flt_image::{Mark, get_block, is_used, mark_of};
+use flt_store_model::{END_PART, FIRST_PART};
 use hex::FromHexError;
 use std::alloc::{AllocError, Global};
 

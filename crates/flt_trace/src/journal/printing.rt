@@ -5,14 +5,15 @@ ghost use Rattle.std.specs.String.{string_bytes};
 ghost use Rattle.flt_config.specs.declared.config.Config.{Config};
 ghost use Rattle.flt_model.specs.declared.call.Op.{Op as Call};
 ghost use Rattle.flt_script.specs.Laws.{are_bytes, is_held};
-ghost use Rattle.flt_script.specs.Step.{with_number};
+ghost use Rattle.flt_step.specs.Words.{with_number};
 ghost use Rattle.flt_turn.specs.Journal.{ops_of};
 ghost use Rattle.flt_trace.specs.Call.{AreCallTexts, CanBeMade, IsCallText, IsOfSave, IsOfStep, IsOpText, IsSaveCall, step_of};
 
-use flt_life::Entry;
+use crate::text::text_of;
+use flt_life_model::Entry;
 use flt_model::Op;
-use flt_script::Step;
 use flt_script::laws::printed_step_is_read_again;
+use flt_step::{Step, put_words};
 use std::alloc::{AllocError, Global};
 
 /// A witness for the checker: each of the bytes is below 256.
@@ -82,8 +83,9 @@ fn step_words(alloc: Global, step: &Step) -> Result<String, AllocError>
     ensures { IfOk result (λ words. (c : Config) (op : Call) → step_of op ≡ Some step.now → CanBeMade c op → IsOfStep c op (string_bytes words)) }
 {
     printed_step_is_read_again();
-    let words = format!(in alloc; "{step}")?;
-    Ok(words)
+    let mut words = Vec::new(alloc);
+    put_words(step, &mut words)?;
+    text_of(words)
 }
 
 /// The words of a call: those of its step, or of what a save makes.

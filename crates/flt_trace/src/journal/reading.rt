@@ -5,15 +5,15 @@ ghost use Rattle.flt_model.specs.declared.call.Op.{Op as Call};
 ghost use Rattle.flt_dcm.specs.Unit.{IsAdmitted};
 ghost use Rattle.flt_turn.specs.Journal.{ops_of};
 ghost use Rattle.flt_turn.specs.declared.vault.Entry.{Entry as Made};
-ghost use Rattle.flt_life.specs.Actions.{action_of};
+ghost use Rattle.flt_life_model.specs.Actions.{action_of};
 ghost use Rattle.flt_trace.specs.Trace.{seen};
 ghost use Rattle.flt_trace.specs.Call.{AreCallTexts, IsCallText, IsOfSave, IsOfStep, IsOpText, is_space};
 
 use flt_config::ValidConfig;
-use flt_life::{Action, Entry};
+use flt_life_model::{Action, Entry, action_of};
 use flt_model::Op;
-use flt_report::put_words;
-use flt_script::{Step, read_number, read_step};
+use flt_script::{read_number, read_step};
+use flt_step::{Step, put_words};
 use std::alloc::{AllocError, Global};
 
 /// The number below 2^32 that digits without a leading zero spell.
@@ -32,32 +32,15 @@ fn read_plain(word: &[u8]) -> Option<u32>
     Some(value as u32)
 }
 
-/// The call that a step makes, if it makes one. The bytes of a request are taken over.
-fn call_of(step: Step) -> Option<Op>
+/// The call that a step makes, if it makes one.
+fn call_of(step: &Step) -> Option<Op>
     ensures { MatchOption result
-        ((op : Call) → action_of step ≢ Action.Call op)
-        (λ op. action_of step ≡ Action.Call op) }
+        ((op : Call) → action_of step.now ≢ Action.Call op)
+        (λ op. action_of step.now ≡ Action.Call op) }
 {
-    match step {
-        Step::Report { event, report } => Some(Op::Report { event, report }),
-        Step::Show { event } => Some(Op::Show { event }),
-        Step::Cycle { cycle } => Some(Op::Cycle { cycle }),
-        Step::Tick { ticks } => Some(Op::Tick { ticks }),
-        Step::Signal { index, value } => Some(Op::Signal { index, value }),
-        Step::Enable {
-            condition,
-            fulfilled,
-        } => Some(Op::Enable {
-            condition,
-            fulfilled,
-        }),
-        Step::Request { tester, bytes } => Some(Op::Request { tester, bytes }),
-        Step::Save
-        | Step::Post { .. }
-        | Step::Drain
-        | Step::Get { .. }
-        | Step::Ask { .. }
-        | Step::Arming(_) => None,
+    match action_of(step) {
+        Action::Call(op) => Some(op),
+        _ => None,
     }
 }
 
@@ -79,7 +62,7 @@ fn read_step_call(
     if printed.as_slice() != words {
         return Ok(None);
     }
-    Ok(call_of(step))
+    Ok(call_of(&step))
 }
 
 /// The call whose text this is, of those that a save makes.

@@ -1,5 +1,5 @@
 //! Two lanes of a watch, held by a gate so that the one or the other makes its call first.
-use super::rows::watched;
+use super::rows::{ONE, watched};
 use flt_lane::Gate;
 use std::sync::Wait;
 use std::sync::atomic::{AtomicU64, Ordering};
@@ -73,5 +73,51 @@ fn each_order_has_the_values_of_its_journal(rt: HostRuntime) -> Result<(), Fail>
         );
         assert!(rt; order.vain.load(Ordering::SeqCst) == 0);
     }
+    Ok(())
+}
+
+/// Counts how often lane 0 asks before a step and after it, and how often out of turn.
+#[derive(Drop)]
+struct Counted {
+    before: AtomicU64,
+    after: AtomicU64,
+    astray: AtomicU64,
+}
+
+impl Counted {
+    /// Notes a question that is not lane 0's, or not the next one.
+    fn note(&self, lane: u32, is_next: bool) {
+        if lane != 0 || !is_next {
+            self.astray.fetch_add(1, Ordering::SeqCst);
+        }
+    }
+}
+
+impl Gate for Counted {
+    fn before<R: Wait>(&self, _rt: &R, lane: u32, step: u32) {
+        let asked = self.before.fetch_add(1, Ordering::SeqCst);
+        let made = self.after.load(Ordering::SeqCst);
+        self.note(lane, asked == u64::from(step) && made == asked);
+    }
+
+    fn after<R: Wait>(&self, _rt: &R, lane: u32, step: u32) {
+        let made = self.after.fetch_add(1, Ordering::SeqCst);
+        let asked = self.before.load(Ordering::SeqCst);
+        self.note(lane, made == u64::from(step) && asked > made);
+    }
+}
+
+#[test]
+fn lane_0_asks_around_each_step(rt: HostRuntime) -> Result<(), Fail> {
+    let gate = Counted {
+        before: AtomicU64::new(0),
+        after: AtomicU64::new(0),
+        astray: AtomicU64::new(0),
+    };
+    let (outcome, _sink) = watched(&rt, &gate, ONE, (&[], &[]), rt.alloc())?;
+    assert!(rt; outcome.status == 0);
+    assert!(rt; gate.before.load(Ordering::SeqCst) == 3);
+    assert!(rt; gate.after.load(Ordering::SeqCst) == 3);
+    assert!(rt; gate.astray.load(Ordering::SeqCst) == 0);
     Ok(())
 }

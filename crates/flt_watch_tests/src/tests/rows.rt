@@ -31,8 +31,16 @@ const TWO: &str =
 const TWO_TOLD: &str =
     "life 1 generation 0\ncycle 0 -> taken\nfail 0 -> taken\nfail 1 -> taken\nt A 14 FF FF FF -> 54\nwatch 0 value 4\nwatch 1 value 77648\nwatch 2 value 694679520\n";
 
+/// Each kind of step that a watch makes. The event is disabled at its one report, so there is no change.
+const EACH: &str =
+    "event 0 dtc 000001 needs 1\ncycle 0\nsig 0 7\ntick 5\nenable 0 0\nprefail 0\nshow 0\nt A 3E 00\n";
+
+const EACH_TOLD: &str =
+    "life 1 generation 0\ncycle 0 -> taken\nsig 0 7 -> taken\ntick 5 -> taken\nenable 0 0 -> taken\nprefail 0 -> ignored enable\nshow 0 -> status 50 fdc 0 failed 0 clean 0 stored 0 overflow 0\nt A 3E 00 -> 7E 00\nwatch 0 value 0\nwatch 1 value 0\nwatch 2 value 0\n";
+
 /// Each script, on a source and a sink that fail so, with its status and what is written.
-static CASES: [(&str, &[u32], &[u32], u8, &str); 8] = [
+static CASES: [(&str, &[u32], &[u32], u8, &str); 9] = [
+    (EACH, NONE, NONE, 0, EACH_TOLD),
     (ONE, NONE, NONE, 0, ONE_TOLD),
     (TWO, NONE, NONE, 0, TWO_TOLD),
     (

@@ -84,6 +84,11 @@ fn gate(block: u16, sequence: u32) -> [u8; 32]
     }))
 }
 
+/// The unit of a code word that says all of a gate of block 8 but its number, which is 0.
+fn numberless() -> [u8; 32] {
+    seal(&[0x45, 1, 0, 8, 0, 1, 0, 0, 0, 0, 0, 0, 0, 0, 0, 0])
+}
+
 /// Takes steps over these units.
 fn play_with(
     rt: &impl Abort,
@@ -121,6 +126,16 @@ fn units_that_no_driver_writes_are_damage(rt: HostRuntime) -> Result<(), Fail> {
         gate(8, 3),
         gate(9, 4),
         "another block",
+        &SECOND_DAMAGED,
+    )?;
+    play_with(&rt, alloc, numberless(), BLANK_PAGE, "0", &FIRST_DAMAGED)?;
+    play_with(&rt, alloc, gate(8, 3), numberless(), "0", &SECOND_DAMAGED)?;
+    play_with(
+        &rt,
+        alloc,
+        gate(8, 3),
+        seal(&[0; 16]),
+        "none",
         &SECOND_DAMAGED,
     )
 }

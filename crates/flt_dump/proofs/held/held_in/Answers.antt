@@ -1,8 +1,8 @@
 use Rattle.std.proofs.Common.{◌≡◌, ◌∙◌, ℕ, Some, None, Err, sym, ap, arith, rules}
 use Rattle.flt_flash.specs.Blocks.{BlocksState}
-use Rattle.flt_sector.specs.Blocks.{block_value, first_fault}
+use Rattle.flt_sector_model.specs.Blocks.{block_value, first_fault}
 use Rattle.flt_nvm.specs.Driver.{driver_of}
-use Rattle.flt_whole.specs.Image.{image_blocks, image_damage}
+use Rattle.flt_store_model.specs.Image.{image_blocks, image_damage}
 use Rattle.flt_dump.specs.Copy.{state_of}
 use Rattle.flt_dump.proofs.Holding.{told_damage, told_judged}
 use Rattle.flt_dump.proofs.held.held_in.Goals as goal

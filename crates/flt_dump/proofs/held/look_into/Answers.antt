@@ -1,6 +1,6 @@
 use Rattle.std.proofs.Common.{◌≡◌, ◌∙◌, ◌/◌, ℕ, List, [], ◌∷◌, length, take, drop, ap, arith}
-use Rattle.flt_generation.specs.Layout.{numbers}
-use Rattle.flt_whole.specs.Image.{image_held}
+use Rattle.flt_store_model.specs.Layout.{numbers}
+use Rattle.flt_store_model.specs.Image.{image_held}
 use Rattle.flt_dump.specs.Copy.{state_of}
 use Rattle.flt_dump.specs.Held.{number_told}
 use Rattle.flt_dump.specs.Listing.{listing_text}

@@ -1,10 +1,10 @@
 use Rattle.std.proofs.Common.{◌≡◌, ◌∙◌, ◌++◌, ℕ, List, [], ◌∷◌, Option, None, Ok, ap, subst}
 use Rattle.std.specs.Prelude.{codes}
 use Rattle.flt_flash.specs.Image.{sector_at}
-use Rattle.flt_generation.specs.Layout.{numbers}
+use Rattle.flt_store_model.specs.Layout.{numbers}
 use Rattle.flt_pages.specs.Told.{TellsOrFails, current_of, told_current}
-use Rattle.flt_sector.specs.Blocks.{current}
-use Rattle.flt_sector.specs.Log.{LogFrom, log}
+use Rattle.flt_sector_model.specs.Blocks.{current}
+use Rattle.flt_sector_model.specs.Log.{LogFrom, log}
 use Rattle.flt_pages.specs.declared.sectors.CurrentSector.{CurrentSector}
 use Rattle.flt_dump.specs.Copy.{state_of}
 use Rattle.flt_dump.specs.Listed.{IsListed}

@@ -1,7 +1,7 @@
 use Rattle.std.proofs.Common.{◌≡◌, ◌∙◌, ◌+◌, ◌-◌, ℕ, List, refl, sym, ap, subst, arith, Ok, Err}
 use Rattle.flt_flash.specs.Blocks.{byte_pages}
 use Rattle.flt_flash.specs.Image.{sector_at}
-use Rattle.flt_sector.specs.Log.{item_at, first_written}
+use Rattle.flt_sector_model.specs.Log.{item_at, first_written}
 use Rattle.flt_pages.proofs.Scanning.{item_told}
 use Rattle.flt_dump.specs.Copy.{state_of}
 use Rattle.flt_dump.proofs.Putting.{Puts, puts_none, puts_torn, puts_record, puts_all, puts_fault, fault_told, blank_told}

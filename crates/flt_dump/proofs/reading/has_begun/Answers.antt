@@ -3,7 +3,7 @@ use Rattle.std.specs.Prelude.{nat_lt}
 use Rattle.std.specs.List.{list_any}
 use Rattle.std.proofs.lemmas.Bool.{le-ltb}
 use Rattle.std.proofs.lemmas.List.{length-map}
-use Rattle.flt_script.specs.Part.{part_of, parts_of}
+use Rattle.flt_step.specs.Part.{part_of, parts_of}
 use Rattle.flt_dump.specs.Dump.{has_step}
 use Rattle.flt_dump.proofs.Steps.{any_mapped}
 use Rattle.flt_dump.proofs.reading.has_begun.Goals as goal

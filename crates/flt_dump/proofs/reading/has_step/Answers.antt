@@ -3,7 +3,7 @@ use Rattle.std.specs.Prelude.{nat_lt}
 use Rattle.std.proofs.lemmas.Iterator.{YieldsList-from_slice}
 use Rattle.std.proofs.lemmas.Iterator.Search.{any_from_yields_List}
 use Rattle.flt_dump.specs.Dump.{has_step}
-use Rattle.flt_script.specs.Part.{part_of}
+use Rattle.flt_step.specs.Part.{part_of}
 use Rattle.flt_dump.proofs.Steps.{any_mapped}
 use Rattle.flt_dump.proofs.reading.has_step.Goals as goal
 

@@ -1,7 +1,7 @@
 use Rattle.std.proofs.Common.{◌≡◌, ◌∙◌, ℕ, List, [], ◌∷◌, ◌++◌, sym, ap}
-use Rattle.flt_generation.specs.Layout.{numbers}
+use Rattle.flt_store_model.specs.Layout.{numbers}
 use Rattle.flt_report.specs.Boot.{boot_text}
-use Rattle.flt_whole.specs.Image.{image_held}
+use Rattle.flt_store_model.specs.Image.{image_held}
 use Rattle.flt_dump.specs.Listing.{listing_text}
 use Rattle.flt_dump.specs.Reads.{content_of}
 use Rattle.flt_examine.specs.Inspection.{boot_of}

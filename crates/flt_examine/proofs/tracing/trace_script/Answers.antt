@@ -1,6 +1,6 @@
 use Rattle.std.proofs.Common.{◌∙◌, ℕ, List, Global, Vec, subst, sym}
 use Rattle.flt_did.specs.Table.{dids_of}
-use Rattle.flt_life.specs.declared.life.Life.{Life}
+use Rattle.flt_life_model.specs.declared.life.Life.{Life}
 use Rattle.flt_script.specs.Script.{content}
 use Rattle.flt_examine.specs.Lines.{IsLastLine, LastFits}
 use Rattle.flt_examine.specs.Traced.{RunsOnBlank}

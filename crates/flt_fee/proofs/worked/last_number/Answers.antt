@@ -3,7 +3,7 @@ use Rattle.flt_flash.specs.Image.{blank_page}
 use Rattle.flt_code.specs.Seal.{sealed, unsealed}
 use Rattle.flt_code.specs.Spoiled.{is_spoiled}
 use Rattle.flt_code.specs.Word.{word_bytes, candidate, word_of}
-use Rattle.flt_sector.specs.Log.{log_from}
+use Rattle.flt_sector_model.specs.Log.{log_from}
 use Rattle.flt_fee.proofs.worked.last_number.Goals as goal
 
 pub returns : goal.returns

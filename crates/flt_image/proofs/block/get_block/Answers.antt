@@ -1,8 +1,8 @@
 use Rattle.std.proofs.Common.{◌∙◌, sym, ap}
-use Rattle.flt_generation.specs.declared.part.Part.TheVariants.{Summary, States, Entry}
-use Rattle.flt_generation.specs.Form.{part_length}
-use Rattle.flt_generation.specs.Layout.{part_of}
-use Rattle.flt_generation.proofs.Sizes.{refused_by_size}
+use Rattle.flt_store_model.specs.declared.part.Part.TheVariants.{Summary, States, Entry}
+use Rattle.flt_store_model.specs.Form.{part_length}
+use Rattle.flt_store_model.specs.Layout.{part_of}
+use Rattle.flt_store_model.proofs.Sizes.{refused_by_size}
 use Rattle.flt_image.proofs.Takings.{refuses, states_kept}
 use Rattle.flt_image.proofs.block.get_block.Goals as goal
 

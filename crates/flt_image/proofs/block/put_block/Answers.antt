@@ -1,6 +1,6 @@
 use Rattle.std.proofs.Common.{subst, sym}
 use Rattle.flt_image.specs.Taking.{HaveShortCounts}
-use Rattle.flt_generation.proofs.Parts.{states_short}
+use Rattle.flt_store_model.proofs.Parts.{states_short}
 use Rattle.flt_image.proofs.block.put_block.Goals as goal
 
 pub put_states-requires-clause-clean : goal.put_states-requires-clause-clean

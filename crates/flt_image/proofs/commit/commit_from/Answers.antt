@@ -1,5 +1,5 @@
 use Rattle.std.proofs.Common.{◌≡◌, arith, length-set, ◌∙◌}
-use Rattle.flt_generation.specs.Reading.{commit_from, index_by_bit}
+use Rattle.flt_store_model.specs.Reading.{commit_from, index_by_bit}
 use Rattle.flt_image.proofs.Indices.{index_more, all_indices}
 use Rattle.flt_image.proofs.commit.commit_from.Goals as goal
 

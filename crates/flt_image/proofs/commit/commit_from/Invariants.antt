@@ -1,7 +1,7 @@
 use Rattle.std.proofs.Common.{◌≡◌, ℕ, ◌<◌, ◌≤◌, ◌-◌, length}
 use Rattle.std.specs.Prelude.{slice_index_or}
-use Rattle.flt_generation.specs.Layout.{parts}
-use Rattle.flt_generation.specs.Reading.{index_by_bit}
+use Rattle.flt_store_model.specs.Layout.{parts}
+use Rattle.flt_store_model.specs.Reading.{index_by_bit}
 use Rattle.flt_image.proofs.commit.commit_from.Given as goal
 
 abbrev pub invariant-loop-id : goal.invariant-loop-id

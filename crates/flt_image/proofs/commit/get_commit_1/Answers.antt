@@ -1,5 +1,5 @@
 use Rattle.std.proofs.Common.{sym, arith}
-use Rattle.flt_generation.proofs.Commits.{none_by_size_1}
+use Rattle.flt_store_model.proofs.Commits.{none_by_size_1}
 use Rattle.flt_image.proofs.commit.get_commit_1.Goals as goal
 
 pub returns-then-bytes-ne-COMMIT_LENGTH : goal.returns-then-bytes-ne-COMMIT_LENGTH

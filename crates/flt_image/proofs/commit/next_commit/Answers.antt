@@ -1,5 +1,5 @@
 use Rattle.std.proofs.Common.{ℕ, List, arith, length-set, subst, ◌∙◌}
-use Rattle.flt_generation.specs.Successor.{IsNextIndex}
+use Rattle.flt_store_model.specs.Successor.{IsNextIndex}
 use Rattle.flt_image.specs.Blocks.{bytes_at}
 use Rattle.flt_image.proofs.Indices.{index_more}
 use Rattle.flt_image.proofs.commit.next_commit.Goals as goal

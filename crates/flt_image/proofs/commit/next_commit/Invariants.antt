@@ -1,6 +1,6 @@
 use Rattle.std.proofs.Common.{◌≡◌, ℕ, ◌<◌, ◌≤◌, ◌-◌, length, get_or}
-use Rattle.flt_generation.specs.Successor.{IsNextIndex}
-use Rattle.flt_generation.specs.Layout.{parts}
+use Rattle.flt_store_model.specs.Successor.{IsNextIndex}
+use Rattle.flt_store_model.specs.Layout.{parts}
 use Rattle.flt_image.specs.Blocks.{bytes_at}
 use Rattle.flt_image.proofs.commit.next_commit.Given as goal
 

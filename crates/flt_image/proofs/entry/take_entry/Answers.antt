@@ -4,7 +4,7 @@ use Rattle.flt_config.specs.declared.config.Config.{Config}
 use Rattle.flt_config.specs.declared.config.EventCfg.{EventCfg}
 use Rattle.flt_config.specs.declared.persist.EntryState.{EntryState}
 use Rattle.flt_config.specs.Durable.{IsEntryOf}
-use Rattle.flt_generation.specs.Fit.{is_alone}
+use Rattle.flt_store_model.specs.Fit.{is_alone}
 use Rattle.flt_image.proofs.Takings.{refuses, takes, none_answered, entry_unfit, entry_differs, entry_twice, entry_taken}
 use Rattle.flt_image.proofs.entry.take_entry.Goals as goal
 

@@ -1,7 +1,7 @@
 use Rattle.std.proofs.Common.{◌≡◌, ℕ, ◌+◌, ◌-◌, ◌++◌, [], ◌∷◌, List, ◌∙◌, ap, subst, arith}
 use Rattle.std.specs.Prelude.{filter}
 use Rattle.std.specs.List.{range_with_len}
-use Rattle.flt_generation.specs.Layout.{parts, is_used, used_ids}
+use Rattle.flt_store_model.specs.Layout.{parts, is_used, used_ids}
 use Rattle.flt_image.proofs.Ranges.{one_more}
 use Rattle.flt_image.proofs.layout.used_ids.Goals as goal
 

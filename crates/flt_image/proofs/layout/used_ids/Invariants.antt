@@ -1,7 +1,7 @@
 use Rattle.std.proofs.Common.{◌≡◌, ◌≤◌, ◌-◌, length}
 use Rattle.std.specs.Prelude.{filter}
 use Rattle.std.specs.List.{range_with_len}
-use Rattle.flt_generation.specs.Layout.{is_used}
+use Rattle.flt_store_model.specs.Layout.{is_used}
 use Rattle.flt_image.proofs.layout.used_ids.Given as goal
 
 abbrev pub invariant-loop-id : goal.invariant-loop-id

@@ -1,7 +1,7 @@
 use Rattle.std.proofs.Common.{sym, ◌∙◌, ap, subst, ◌<◌, arith, Some}
-use Rattle.flt_generation.specs.declared.mark.Mark.{Mark}
-use Rattle.flt_generation.specs.Reading.{mark_from, are_bytes_of_mark}
-use Rattle.flt_generation.proofs.Marks.{tested_mark, no_mark, no_mark_by_size}
+use Rattle.flt_store_model.specs.declared.mark.Mark.{Mark}
+use Rattle.flt_store_model.specs.Reading.{mark_from, are_bytes_of_mark}
+use Rattle.flt_store_model.proofs.Marks.{tested_mark, no_mark, no_mark_by_size}
 use Rattle.flt_image.proofs.mark.get_mark.Goals as goal
 
 pub returns-then-bytes-ne-MARK_LENGTH : goal.returns-then-bytes-ne-MARK_LENGTH

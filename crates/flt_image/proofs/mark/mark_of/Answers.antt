@@ -1,7 +1,7 @@
 use Rattle.std.proofs.Common.{◌<◌, ◌≤◌, length, subst, arith}
 use Rattle.flt_config.specs.declared.TheConstants.{EVENTS}
 use Rattle.flt_config.specs.declared.config.Config.{Config}
-use Rattle.flt_generation.specs.declared.mark.Mark.{Mark}
+use Rattle.flt_store_model.specs.declared.mark.Mark.{Mark}
 use Rattle.flt_image.proofs.mark.mark_of.Goals as goal
 
 pub returns-clause-given : goal.returns-clause-given

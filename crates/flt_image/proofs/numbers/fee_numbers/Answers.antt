@@ -1,7 +1,7 @@
 use Rattle.std.proofs.Common.{◌≡◌, ℕ, ◌+◌, ◌-◌, ◌*◌, ◌++◌, [], ◌∷◌, List, ◌∙◌, ap, subst, arith}
 use Rattle.std.specs.Prelude.{flat_map, map}
 use Rattle.std.specs.List.{range_with_len}
-use Rattle.flt_generation.specs.Layout.{first_part, parts, mark_number, first_commit, second_commit, numbers, numbers_per_block, number_of, first_application, applications, both_indices, application_number}
+use Rattle.flt_store_model.specs.Layout.{first_part, parts, mark_number, first_commit, second_commit, numbers, numbers_per_block, number_of, first_application, applications, both_indices, application_number}
 use Rattle.flt_image.proofs.Ranges.{indices_more, applications_more}
 use Rattle.flt_image.proofs.numbers.fee_numbers.Goals as goal
 

@@ -1,7 +1,7 @@
 use Rattle.std.proofs.Common.{◌≡◌, ◌++◌, ◌-◌, [], ◌∷◌, take}
 use Rattle.std.specs.Prelude.{map, flat_map}
 use Rattle.std.specs.List.{range_with_len}
-use Rattle.flt_generation.specs.Layout.{first_part, parts, mark_number, first_commit, second_commit, both_indices, application_number}
+use Rattle.flt_store_model.specs.Layout.{first_part, parts, mark_number, first_commit, second_commit, both_indices, application_number}
 use Rattle.flt_image.proofs.numbers.fee_numbers.Given as goal
 
 abbrev pub invariant-loop-number : goal.invariant-loop-number

@@ -1,9 +1,9 @@
 use Rattle.std.proofs.Common.{◌≡◌, ℕ, ◌+◌, ◌++◌, List, length, sym, ◌∙◌, ap, length-append, arith}
 use Rattle.std.proofs.lemmas.List.{nil_from_length}
 use Rattle.flt_config.specs.declared.persist.EventState.{EventState}
-use Rattle.flt_generation.specs.Form.{state_bytes, first_states}
-use Rattle.flt_generation.proofs.Sizes.{state_size}
-use Rattle.flt_generation.proofs.States.{first_states_more, no_states}
+use Rattle.flt_store_model.specs.Form.{state_bytes, first_states}
+use Rattle.flt_store_model.proofs.Sizes.{state_size}
+use Rattle.flt_store_model.proofs.States.{first_states_more, no_states}
 use Rattle.flt_image.proofs.states.put_states.Goals as goal
 
 pub loop-place-init : goal.loop-place-init

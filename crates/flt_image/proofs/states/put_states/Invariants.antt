@@ -1,5 +1,5 @@
 use Rattle.std.proofs.Common.{◌≡◌, ◌*◌, length}
-use Rattle.flt_generation.specs.Form.{first_states}
+use Rattle.flt_store_model.specs.Form.{first_states}
 use Rattle.flt_image.proofs.states.put_states.Given as goal
 
 abbrev pub invariant-loop-place : goal.invariant-loop-place

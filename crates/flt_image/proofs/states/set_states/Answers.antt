@@ -1,8 +1,8 @@
 use Rattle.std.proofs.Common.{refl, ◌∙◌, ◌+◌, ap, sym, arith, List, length, length-set}
 use Rattle.std.specs.Prelude.{slice_set, slice_index_or, false}
 use Rattle.flt_config.specs.declared.persist.EventState.{EventState}
-use Rattle.flt_generation.specs.Reading.{with_states}
-use Rattle.flt_generation.proofs.States.{with_states_more, no_states_set}
+use Rattle.flt_store_model.specs.Reading.{with_states}
+use Rattle.flt_store_model.proofs.States.{with_states_more, no_states_set}
 use Rattle.flt_image.proofs.Takings.{block_state_at}
 use Rattle.flt_image.proofs.states.set_states.Goals as goal
 

@@ -1,5 +1,5 @@
 use Rattle.std.proofs.Common.{◌≡◌, ℕ, List, length}
-use Rattle.flt_generation.specs.Reading.{with_states}
+use Rattle.flt_store_model.specs.Reading.{with_states}
 use Rattle.flt_image.specs.Taking.{block_states}
 use Rattle.flt_image.proofs.states.set_states.Given as goal
 

@@ -1,7 +1,7 @@
 use Rattle.std.proofs.Common.{◌∙◌, ◌++◌, [], ◌∷◌, List, sym, ap, arith}
 use Rattle.std.proofs.lemmas.List.FromFn.{map-range_with_len_more}
 use Rattle.flt_config.specs.declared.persist.EventState.{EventState}
-use Rattle.flt_generation.specs.Reading.{state_from}
+use Rattle.flt_store_model.specs.Reading.{state_from}
 use Rattle.flt_image.specs.Taking.{block_states}
 use Rattle.flt_image.proofs.states.states_from.Goals as goal
 

@@ -4,9 +4,9 @@ use Rattle.flt_config.specs.declared.config.Config.{Config}
 use Rattle.flt_config.specs.declared.config.EventCfg.{EventCfg}
 use Rattle.flt_config.specs.declared.persist.EventState.{EventState}
 use Rattle.flt_config.specs.Durable.{AreStatesOf}
-use Rattle.flt_generation.specs.Form.{states_bytes}
-use Rattle.flt_generation.specs.Reading.{with_states}
-use Rattle.flt_generation.proofs.Parts.{states_short}
+use Rattle.flt_store_model.specs.Form.{states_bytes}
+use Rattle.flt_store_model.specs.Reading.{with_states}
+use Rattle.flt_store_model.proofs.Parts.{states_short}
 use Rattle.flt_image.specs.Taking.{HaveShortCounts, block_states}
 use Rattle.flt_image.proofs.Takings.{refuses, takes, states_unfit, states_differ, states_taken, all_set, own_read}
 use Rattle.flt_image.proofs.states.take_states.Goals as goal

@@ -1,7 +1,7 @@
 use Rattle.std.proofs.Common.{◌∙◌, sym, ap}
 use Rattle.std.proofs.lemmas.Bool.{not-true, not-false}
 use Rattle.std.specs.Prelude.{bytes_eq}
-use Rattle.flt_generation.specs.Reading.{with_summary}
+use Rattle.flt_store_model.specs.Reading.{with_summary}
 use Rattle.flt_image.proofs.Takings.{refuses, takes, summary_unfit, summary_differs, summary_taken, all_summed}
 use Rattle.flt_image.proofs.summary.take_summary.Goals as goal
 

@@ -1,8 +1,8 @@
 use Rattle.std.proofs.Common.{◌∙◌, ◌++◌, List, ap}
 use Rattle.flt_nvm.specs.declared.table.Kind.TheVariants.{Native, Redundant}
 use Rattle.flt_nvm.specs.declared.table.BlockCfg.{BlockCfg}
-use Rattle.flt_generation.specs.Layout.{mark_id, commit_id, summary_id, first_states_id, states_blocks, first_entry_id, entries, later_states_id, later_states_blocks, first_application, applications}
-use Rattle.flt_generation.specs.Form.{mark_length, commit_length, summary_length, states_length, entry_length, application_length}
+use Rattle.flt_store_model.specs.Layout.{mark_id, commit_id, summary_id, first_states_id, states_blocks, first_entry_id, entries, later_states_id, later_states_blocks, first_application, applications}
+use Rattle.flt_store_model.specs.Form.{mark_length, commit_length, summary_length, states_length, entry_length, application_length}
 use Rattle.flt_image.specs.Table.{rows, part, block_table}
 use Rattle.flt_image.proofs.table.block_table.Goals as goal
 

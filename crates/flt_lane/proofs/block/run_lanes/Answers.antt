@@ -1,8 +1,8 @@
 use Rattle.std.proofs.Common.{◌≤◌, map, arith, ap, subst, sym, ◌∙◌}
 use Rattle.flt_config.specs.declared.config.Config.{Config}
-use Rattle.flt_life.specs.Parts.{calls_of}
-use Rattle.flt_life.specs.Room.{steps_of, told_in}
-use Rattle.flt_script.specs.Step.{store_lanes}
+use Rattle.flt_life_model.specs.Parts.{calls_of}
+use Rattle.flt_life_model.specs.Room.{steps_of, told_in}
+use Rattle.flt_step.specs.Step.{store_lanes}
 use Rattle.flt_fork.proofs.Passed.{split_each}
 use Rattle.flt_lane.specs.Work.{HasConfig}
 use Rattle.flt_lane.specs.declared.lane.LaneWork.{LaneWork}

@@ -2,12 +2,12 @@ use Rattle.std.proofs.Common.{◌≡◌, ◌<◌, ◌∙◌, ◌+◌, ℕ, Bool,
 use Rattle.std.specs.Prelude.{vec_len}
 use Rattle.std.specs.Vec.{vec_capacity}
 use Rattle.std.specs.Int.{from_bool}
-use Rattle.flt_script.specs.declared.step.Step.TheVariants as steps
+use Rattle.flt_step.specs.declared.step.Step.TheVariants as steps
 use Rattle.flt_turn.specs.Sums.{one_if}
-use Rattle.flt_life.specs.Answers.{Told}
-use Rattle.flt_life.specs.declared.action.Action.TheVariants as action
-use Rattle.flt_life.specs.declared.replies.LaneReplies.{LaneReplies}
-use Rattle.flt_life.specs.declared.answer.StepAnswer.TheVariants as answers
+use Rattle.flt_life_model.specs.Answers.{Told}
+use Rattle.flt_life_model.specs.declared.action.Action.TheVariants as action
+use Rattle.flt_life_model.specs.declared.replies.LaneReplies.{LaneReplies}
+use Rattle.flt_life_model.specs.declared.answer.StepAnswer.TheVariants as answers
 use Rattle.flt_lane.specs.Draining.{HasDrained}
 use Rattle.flt_lane.specs.Stepped.{HasRoomFor, TakesStep}
 use Rattle.flt_lane.proofs.Answering.{keeps, takes_deed}

@@ -4,7 +4,7 @@ use Rattle.std.specs.declared.result.Result.{Result}
 use Rattle.std.proofs.lemmas.Bool.{false≢true}
 use Rattle.flt_flash.specs.Content.{bytes as holding}
 use Rattle.flt_flash.specs.State.{HasRisenBy}
-use Rattle.flt_generation.specs.Layout.{application_number}
+use Rattle.flt_store_model.specs.Layout.{application_number}
 use Rattle.flt_nvm.specs.Leaves.{IsEither}
 use Rattle.flt_store.specs.declared.fault.PutFault.{PutFault}
 use Rattle.flt_store.specs.declared.fault.PutFault.TheVariants as faults

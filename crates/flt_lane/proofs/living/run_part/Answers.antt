@@ -1,6 +1,6 @@
 use Rattle.std.proofs.Common.{[], ◌∷◌, map, subst, sym}
-use Rattle.flt_life.specs.Parts.{own_steps}
-use Rattle.flt_life.specs.Room.{HasRoomForSteps, steps_of, told_in}
+use Rattle.flt_life_model.specs.Parts.{own_steps}
+use Rattle.flt_life_model.specs.Room.{HasRoomForSteps, steps_of, told_in}
 use Rattle.flt_lane.specs.BlockRun.{GainsPart, HasRunLanes}
 use Rattle.flt_lane.specs.Room.{part_in}
 use Rattle.flt_lane.specs.declared.room.BlockRoom.{BlockRoom}

@@ -1,11 +1,11 @@
 use Rattle.std.proofs.Common.{List, [], ◌∷◌, ◌++◌, map, reverse, subst, sym, ◌∙◌}
 use Rattle.flt_flash.specs.declared.arm.Arm.{Arm}
 use Rattle.flt_store.specs.Store.{driver_of}
-use Rattle.flt_life.specs.Ordered.{Deed, deeds_in}
-use Rattle.flt_life.specs.Room.{told_in}
-use Rattle.flt_life.specs.Going.{WereGiven}
-use Rattle.flt_life.proofs.Giving.{none_given, given_further}
-use Rattle.flt_life.proofs.Riding.{goes_nowhere, goes_further}
+use Rattle.flt_life_model.specs.Ordered.{Deed, deeds_in}
+use Rattle.flt_life_model.specs.Room.{told_in}
+use Rattle.flt_life_model.specs.Going.{WereGiven}
+use Rattle.flt_life_model.proofs.Giving.{none_given, given_further}
+use Rattle.flt_life_model.proofs.Riding.{goes_nowhere, goes_further}
 use Rattle.flt_lane.specs.Living.{Carries}
 use Rattle.flt_lane.specs.Room.{IsPartFor}
 use Rattle.flt_lane.proofs.Carrying.{carries_beside, carries_further}

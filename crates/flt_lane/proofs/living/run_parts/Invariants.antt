@@ -1,10 +1,10 @@
 use Rattle.std.proofs.Common.{[], map, reverse}
 use Rattle.flt_store.specs.Store.{driver_of}
-use Rattle.flt_life.specs.Actions.{all_arms}
-use Rattle.flt_life.specs.Ordered.{deeds_in}
-use Rattle.flt_life.specs.Parts.{own_actions}
-use Rattle.flt_life.specs.Room.{told_in}
-use Rattle.flt_life.specs.Going.{GoesOn, WereGiven}
+use Rattle.flt_life_model.specs.Actions.{all_arms}
+use Rattle.flt_life_model.specs.Ordered.{deeds_in}
+use Rattle.flt_life_model.specs.Parts.{own_actions}
+use Rattle.flt_life_model.specs.Room.{told_in}
+use Rattle.flt_life_model.specs.Going.{GoesOn, WereGiven}
 use Rattle.flt_lane.specs.Living.{Carries}
 use Rattle.flt_lane.proofs.Lives.{IsLiving, parts_in}
 use Rattle.flt_lane.proofs.living.run_parts.Given as goal

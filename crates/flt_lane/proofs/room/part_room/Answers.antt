@@ -1,9 +1,9 @@
 use Rattle.std.proofs.Common.{◌≡◌, inr, List, [], ◌∷◌, ◌++◌, All, Vec, map, ap, sym, subst, arith, ◌∙◌}
 use Rattle.std.proofs.lemmas.List.{length-map}
-use Rattle.flt_script.specs.declared.step.Step.{Step}
-use Rattle.flt_script.specs.Part.{part_of}
-use Rattle.flt_life.specs.Parts.{lanes_in}
-use Rattle.flt_life.specs.Room.{IsLaneRoom, steps_of}
+use Rattle.flt_step.specs.declared.step.Step.{Step}
+use Rattle.flt_step.specs.Part.{part_of}
+use Rattle.flt_life_model.specs.Parts.{lanes_in}
+use Rattle.flt_life_model.specs.Room.{IsLaneRoom, steps_of}
 use Rattle.flt_lane.specs.Room.{IsBlockRoom}
 use Rattle.flt_lane.specs.declared.room.BlockRoom.{BlockRoom}
 use Rattle.flt_fork.proofs.Blocks.{all_left, all_right}

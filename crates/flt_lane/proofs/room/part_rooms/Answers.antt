@@ -1,7 +1,7 @@
 use Rattle.std.proofs.Common.{◌+◌, ◌∷◌, [], All, ap, sym, subst, drop, ◌∙◌, map}
 use Rattle.std.proofs.lemmas.List.Elements.{All-append, All-cons, All-nil}
-use Rattle.flt_script.specs.Part.{parts_of}
-use Rattle.flt_life.specs.Parts.{lanes_in}
+use Rattle.flt_step.specs.Part.{parts_of}
+use Rattle.flt_life_model.specs.Parts.{lanes_in}
 use Rattle.flt_lane.specs.Room.{IsPartRoom, part_in}
 use Rattle.flt_lane.proofs.Rooms.{next_lanes, parts_more}
 use Rattle.flt_lane.proofs.room.part_rooms.Goals as goal

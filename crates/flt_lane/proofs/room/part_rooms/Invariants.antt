@@ -1,7 +1,7 @@
 use Rattle.std.proofs.Common.{◌≡◌, take, drop, map, All}
-use Rattle.flt_life.specs.Parts.{lanes_in}
-use Rattle.flt_life.specs.Room.{IsLaneRoom, steps_of}
-use Rattle.flt_script.specs.Part.{parts_of}
+use Rattle.flt_life_model.specs.Parts.{lanes_in}
+use Rattle.flt_life_model.specs.Room.{IsLaneRoom, steps_of}
+use Rattle.flt_step.specs.Part.{parts_of}
 use Rattle.flt_lane.specs.Room.{IsPartRoom, part_in}
 use Rattle.flt_lane.proofs.room.part_rooms.Given as goal
 

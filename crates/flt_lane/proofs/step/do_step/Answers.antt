@@ -1,10 +1,10 @@
 use Rattle.std.proofs.Common.{◌∙◌, subst, sym}
-use Rattle.flt_life.specs.Actions.{IsPossible}
-use Rattle.flt_script.specs.declared.step.Step.{Step}
+use Rattle.flt_life_model.specs.Actions.{IsPossible}
+use Rattle.flt_step.specs.declared.step.Step.{Step}
 use Rattle.flt_lane.specs.Stepped.{IsLockCall, TakesStep}
 use Rattle.flt_lane.proofs.OffStore.{else_calls}
 use Rattle.flt_lane.proofs.Answering.{takes_call}
-use Rattle.flt_life.proofs.ByAction.{is_arming, is_drain, is_get, is_save}
+use Rattle.flt_life_model.proofs.ByAction.{is_arming, is_drain, is_get, is_save}
 use Rattle.flt_lane.proofs.step.do_step.Goals as goal
 
 pub returns-in-Save-clause-takes : goal.returns-in-Save-clause-takes

@@ -3,25 +3,25 @@ use Rattle.flt_config.specs.declared.config.Config.{Config}
 use Rattle.flt_flash.specs.Calls.{SameValues}
 use Rattle.flt_flash.specs.Content.{Content}
 use Rattle.flt_flash.specs.declared.blocks.Blocks.{Ghosts}
-use Rattle.flt_generation.specs.Holding.{Generation}
-use Rattle.flt_generation.specs.Layout.{applications, application_number}
+use Rattle.flt_store_model.specs.Holding.{Generation}
+use Rattle.flt_store_model.specs.Layout.{applications, application_number}
 use Rattle.flt_queue.specs.Queue.{History}
-use Rattle.flt_script.specs.declared.step.Step.TheVariants as steps
+use Rattle.flt_step.specs.declared.step.Step.TheVariants as steps
 use Rattle.flt_store.specs.declared.store.Store.{Store}
 use Rattle.flt_store.specs.Store.{IsAlive, IsRunning, driver_of}
-use Rattle.flt_life.specs.Answers.{Told}
-use Rattle.flt_life.specs.Applications.{GetsBy, MayHold, jobs_told, up_to_done}
-use Rattle.flt_life.specs.Ordered.{Deed}
-use Rattle.flt_life.specs.declared.action.Action.TheVariants as action
-use Rattle.flt_life.specs.declared.answer.StepAnswer.TheVariants as answers
+use Rattle.flt_life_model.specs.Answers.{Told}
+use Rattle.flt_life_model.specs.Applications.{GetsBy, MayHold, jobs_told, up_to_done}
+use Rattle.flt_life_model.specs.Ordered.{Deed}
+use Rattle.flt_life_model.specs.declared.action.Action.TheVariants as action
+use Rattle.flt_life_model.specs.declared.answer.StepAnswer.TheVariants as answers
 use Rattle.flt_shared.specs.Call.{Seat}
-use Rattle.flt_life.specs.SoFar.{IsCaused}
-use Rattle.flt_life.proofs.Causing.{caused_read, caused_unread}
+use Rattle.flt_life_model.specs.SoFar.{IsCaused}
+use Rattle.flt_life_model.proofs.Causing.{caused_read, caused_unread}
 use Rattle.flt_lane.specs.Living.{AreHeld, Carries, answers_of, drains_by, saves_by}
 use Rattle.flt_lane.specs.Runs.{QueueSeat}
 use Rattle.flt_lane.proofs.Answering.{keeps, takes_deed}
 use Rattle.flt_lane.proofs.Carrying.{gets_bytes, gets_none, holds_deed, living_deed}
-use Rattle.flt_life.proofs.Keeping.{IsNoSave}
+use Rattle.flt_life_model.proofs.Keeping.{IsNoSave}
 use Rattle.flt_lane.proofs.Leaving.{leaves_by_calls}
 use Rattle.flt_lane.proofs.Stepping.{none_made, none_queued}
 use Rattle.flt_lane.proofs.step.get.Goals as goal

@@ -1,6 +1,6 @@
 use Rattle.std.proofs.Common.{refl, rules}
-use Rattle.flt_life.specs.declared.answer.StepAnswer.TheVariants.{Armed}
-use Rattle.flt_script.specs.declared.step.Step.TheVariants as steps
+use Rattle.flt_life_model.specs.declared.answer.StepAnswer.TheVariants.{Armed}
+use Rattle.flt_step.specs.declared.step.Step.TheVariants as steps
 use Rattle.flt_lane.proofs.Answering.{keeps}
 use Rattle.flt_lane.proofs.Carrying.{carries_arm}
 use Rattle.flt_lane.proofs.Stepping.{none_made, none_queued}

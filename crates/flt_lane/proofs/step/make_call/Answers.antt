@@ -2,11 +2,11 @@ use Rattle.std.proofs.Common.{◌≤◌, [], refl, rules, subst, sym, ◌∙◌}
 use Rattle.std.specs.Prelude.{reverse}
 use Rattle.flt_turn.specs.Seats.{ops_before}
 use Rattle.flt_shared.specs.Call.{whole}
-use Rattle.flt_life.specs.Actions.{response_size}
-use Rattle.flt_life.specs.Answers.{Told, reply_size}
-use Rattle.flt_life.specs.Played.{ActionMakes, ActionQueues}
-use Rattle.flt_life.specs.declared.action.Action.TheVariants as action
-use Rattle.flt_life.specs.declared.answer.StepAnswer.TheVariants as answers
+use Rattle.flt_life_model.specs.Actions.{response_size}
+use Rattle.flt_life_model.specs.Answers.{Told, reply_size}
+use Rattle.flt_life_model.specs.Played.{ActionMakes, ActionQueues}
+use Rattle.flt_life_model.specs.declared.action.Action.TheVariants as action
+use Rattle.flt_life_model.specs.declared.answer.StepAnswer.TheVariants as answers
 use Rattle.flt_lane.proofs.Answering.{keeps, keeps_with}
 use Rattle.flt_lane.proofs.Stepping.{none_made, none_queued, one_made, one_queued, size_of_told}
 use Rattle.flt_lane.proofs.step.make_call.Goals as goal

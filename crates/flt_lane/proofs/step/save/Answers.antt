@@ -1,10 +1,10 @@
 use Rattle.std.proofs.Common.{Err, ap, refl}
-use Rattle.flt_life.specs.Answers.{Told}
-use Rattle.flt_life.specs.declared.answer.StepAnswer.TheVariants as answers
-use Rattle.flt_script.specs.declared.step.Step.TheVariants as steps
+use Rattle.flt_life_model.specs.Answers.{Told}
+use Rattle.flt_life_model.specs.declared.answer.StepAnswer.TheVariants as answers
+use Rattle.flt_step.specs.declared.step.Step.TheVariants as steps
 use Rattle.flt_store.specs.Store.{driver_of}
 use Rattle.flt_turn.specs.Call.{past}
-use Rattle.flt_life.proofs.Causing.{caused_saved, caused_failed}
+use Rattle.flt_life_model.proofs.Causing.{caused_saved, caused_failed}
 use Rattle.flt_lane.specs.Living.{answers_of}
 use Rattle.flt_lane.proofs.Carrying.{holds_deed}
 use Rattle.flt_lane.proofs.Saves.{living_saved, living_failed}

@@ -1,12 +1,12 @@
 use Rattle.std.proofs.Common.{[], ◌∙◌, length, map, reverse, ap, arith}
 use Rattle.std.proofs.lemmas.List.{length-map}
-use Rattle.flt_script.specs.Part.{parts_of}
-use Rattle.flt_life.specs.declared.room.LaneRoom.{LaneRoom}
-use Rattle.flt_life.specs.declared.life.Boot.TheVariants.{Dark}
-use Rattle.flt_life.specs.Parts.{own_actions}
-use Rattle.flt_life.specs.Played.{dark_answer, dark_answers}
-use Rattle.flt_life.specs.Room.{steps_of, told_in}
-use Rattle.flt_life.proofs.Sizes.{lanes_count}
+use Rattle.flt_step.specs.Part.{parts_of}
+use Rattle.flt_life_model.specs.declared.room.LaneRoom.{LaneRoom}
+use Rattle.flt_life_model.specs.declared.life.Boot.TheVariants.{Dark}
+use Rattle.flt_life_model.specs.Parts.{own_actions}
+use Rattle.flt_life_model.specs.Played.{dark_answer, dark_answers}
+use Rattle.flt_life_model.specs.Room.{steps_of, told_in}
+use Rattle.flt_life_model.proofs.Sizes.{lanes_count}
 use Rattle.flt_lives.proofs.dark.dark_life.Goals as goal
 
 pub take_dark_lanes-requires-clause-room : goal.take_dark_lanes-requires-clause-room

@@ -1,11 +1,11 @@
 use Rattle.std.proofs.Common.{◌∙◌, ◌++◌, ◌∷◌, [], take, length, refl, ap, sym, subst, arith}
 use Rattle.std.specs.Prelude.{IsTrue}
 use Rattle.std.proofs.lemmas.List.{map_more, take_all}
-use Rattle.flt_script.specs.declared.step.Step.{Step}
-use Rattle.flt_script.specs.Step.{is_lane_step}
-use Rattle.flt_life.specs.Actions.{action_of}
-use Rattle.flt_life.specs.Answers.{told_by}
-use Rattle.flt_life.specs.Played.{dark_answer, dark_answers}
+use Rattle.flt_step.specs.declared.step.Step.{Step}
+use Rattle.flt_step.specs.Step.{is_lane_step}
+use Rattle.flt_life_model.specs.Actions.{action_of}
+use Rattle.flt_life_model.specs.Answers.{told_by}
+use Rattle.flt_life_model.specs.Played.{dark_answer, dark_answers}
 use Rattle.flt_lives.proofs.Rooms.{dark_in_lane}
 use Rattle.flt_lives.proofs.dark.take_dark_lane.Goals as goal
 

@@ -1,8 +1,8 @@
 use Rattle.std.proofs.Common.{◌≡◌, ◌≤◌, take}
 use Rattle.std.specs.Prelude.{vec_len}
 use Rattle.std.specs.Vec.{vec_capacity}
-use Rattle.flt_life.specs.Played.{dark_answers}
-use Rattle.flt_life.specs.Room.{told_in}
+use Rattle.flt_life_model.specs.Played.{dark_answers}
+use Rattle.flt_life_model.specs.Room.{told_in}
 use Rattle.flt_lives.proofs.dark.take_dark_lane.Given as goal
 
 abbrev pub invariant-loop-step : goal.invariant-loop-step

@@ -1,9 +1,9 @@
 use Rattle.std.proofs.Common.{◌∙◌, ◌++◌, ◌∷◌, [], length, map, ap, sym, subst, arith}
 use Rattle.std.specs.Prelude.{All}
 use Rattle.std.proofs.lemmas.List.{append_assoc, map-append}
-use Rattle.flt_life.specs.declared.room.LaneRoom.{LaneRoom}
-use Rattle.flt_life.specs.Played.{dark_answers}
-use Rattle.flt_life.specs.Room.{IsLaneRoom, steps_of, told_in}
+use Rattle.flt_life_model.specs.declared.room.LaneRoom.{LaneRoom}
+use Rattle.flt_life_model.specs.Played.{dark_answers}
+use Rattle.flt_life_model.specs.Room.{IsLaneRoom, steps_of, told_in}
 use Rattle.flt_lives.specs.Dark.{IsLaneSteps}
 use Rattle.flt_lives.proofs.Rooms.{next_of}
 use Rattle.flt_lives.proofs.dark.take_dark_lanes.Goals as goal

@@ -1,8 +1,8 @@
 use Rattle.std.proofs.Common.{◌≡◌, ◌++◌, ◌+◌, ◌≤◌, length, map}
 use Rattle.std.specs.Prelude.{vec_len}
 use Rattle.std.specs.Vec.{vec_capacity}
-use Rattle.flt_life.specs.Played.{dark_answers}
-use Rattle.flt_life.specs.Room.{steps_of, told_in}
+use Rattle.flt_life_model.specs.Played.{dark_answers}
+use Rattle.flt_life_model.specs.Room.{steps_of, told_in}
 use Rattle.flt_lives.proofs.dark.take_dark_lanes.Given as goal
 
 abbrev pub invariant-loop-lane : goal.invariant-loop-lane

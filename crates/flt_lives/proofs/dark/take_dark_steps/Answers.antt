@@ -2,15 +2,15 @@ use Rattle.std.proofs.Common.{◌∙◌, ◌++◌, ◌∷◌, [], map, take, len
 use Rattle.std.specs.Prelude.{sum_by}
 use Rattle.std.proofs.lemmas.List.{length-append, map-append}
 use Rattle.std.proofs.lemmas.List.Sums.{sum_by_push}
-use Rattle.flt_script.specs.Part.{part_of, parts_of}
+use Rattle.flt_step.specs.Part.{part_of, parts_of}
 use Rattle.flt_store.specs.Store.{driver_of}
-use Rattle.flt_life.specs.Actions.{IsPossibleArm, all_arms}
-use Rattle.flt_life.specs.Parts.{arms_in, own_actions, own_steps}
-use Rattle.flt_life.specs.Played.{dark_answer}
-use Rattle.flt_life.proofs.Sizes.{parts_more_by, sum_within}
-use Rattle.flt_life.specs.Going.{WereGiven}
-use Rattle.flt_life.proofs.Giving.{all_arms-append, given_further}
-use Rattle.flt_life.proofs.Riding.{goes_further}
+use Rattle.flt_life_model.specs.Actions.{IsPossibleArm, all_arms}
+use Rattle.flt_life_model.specs.Parts.{arms_in, own_actions, own_steps}
+use Rattle.flt_life_model.specs.Played.{dark_answer}
+use Rattle.flt_life_model.proofs.Sizes.{parts_more_by, sum_within}
+use Rattle.flt_life_model.specs.Going.{WereGiven}
+use Rattle.flt_life_model.proofs.Giving.{all_arms-append, given_further}
+use Rattle.flt_life_model.proofs.Riding.{goes_further}
 use Rattle.flt_lives.proofs.Rooms.{actions_are, own_among, own_steps_within, steps_are}
 use Rattle.flt_lives.proofs.dark.take_dark_steps.Goals as goal
 

@@ -1,14 +1,14 @@
 use Rattle.std.proofs.Common.{◌≡◌, ◌+◌, ◌≤◌, take, map, length}
 use Rattle.std.specs.Prelude.{sum_by, vec_len}
 use Rattle.std.specs.Vec.{vec_capacity}
-use Rattle.flt_script.specs.Part.{parts_of}
+use Rattle.flt_step.specs.Part.{parts_of}
 use Rattle.flt_store.specs.Store.{driver_of}
-use Rattle.flt_life.specs.Actions.{all_arms}
-use Rattle.flt_life.specs.Moment.{moment_of}
-use Rattle.flt_life.specs.Parts.{arms_in, own_actions, own_steps}
-use Rattle.flt_life.specs.Played.{dark_answer}
-use Rattle.flt_life.specs.Room.{told_in}
-use Rattle.flt_life.specs.Going.{GoesOn, WereGiven}
+use Rattle.flt_life_model.specs.Actions.{all_arms}
+use Rattle.flt_life_model.specs.Moment.{moment_of}
+use Rattle.flt_life_model.specs.Parts.{arms_in, own_actions, own_steps}
+use Rattle.flt_life_model.specs.Played.{dark_answer}
+use Rattle.flt_life_model.specs.Room.{told_in}
+use Rattle.flt_life_model.specs.Going.{GoesOn, WereGiven}
 use Rattle.flt_lives.proofs.dark.take_dark_steps.Given as goal
 
 abbrev pub invariant-loop-part : goal.invariant-loop-part

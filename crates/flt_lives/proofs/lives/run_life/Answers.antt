@@ -2,16 +2,16 @@ use Rattle.std.proofs.Common.{◌≢◌, ◌∙◌, refl, ap, sym, subst, map, r
 use Rattle.flt_restore.specs.declared.fault.StartFault.TheVariants as faults
 use Rattle.flt_store.specs.Store.{driver_of}
 use Rattle.flt_store.specs.Start.{RefusedFor}
-use Rattle.flt_script.specs.Part.{parts_of}
-use Rattle.flt_life.specs.Chain.{LifeView}
-use Rattle.flt_life.specs.Lives.{StaysSound, arms_by, view_of}
-use Rattle.flt_life.specs.Moment.{Moment, moment_of}
-use Rattle.flt_life.specs.Parts.{own_actions, lanes_in}
-use Rattle.flt_life.specs.Played.{IsPlayed, dark_answer, dark_answers}
-use Rattle.flt_life.specs.Going.{WereGiven}
+use Rattle.flt_step.specs.Part.{parts_of}
+use Rattle.flt_life_model.specs.Chain.{LifeView}
+use Rattle.flt_life_model.specs.Lives.{StaysSound, arms_by, view_of}
+use Rattle.flt_life_model.specs.Moment.{Moment, moment_of}
+use Rattle.flt_life_model.specs.Parts.{own_actions, lanes_in}
+use Rattle.flt_life_model.specs.Played.{IsPlayed, dark_answer, dark_answers}
+use Rattle.flt_life_model.specs.Going.{WereGiven}
 use Rattle.flt_lives.specs.Living.{IsLived}
 use Rattle.flt_lives.proofs.Deeds.{keeps_from_boot}
-use Rattle.flt_life.proofs.Giving.{none_since}
+use Rattle.flt_life_model.proofs.Giving.{none_since}
 use Rattle.flt_lives.proofs.Rooms.{possible_own, possible_lanes}
 use Rattle.flt_lives.proofs.Starting.{if_ok, keeps, refuses, stays_by_keeping, lived_refused, lived_started, lived_dark}
 use Rattle.flt_lives.proofs.Beginning.{none_begun, one_begun}

@@ -2,15 +2,15 @@ use Rattle.std.proofs.Common.{◌∙◌, ◌+◌, ap, sym, subst, refl, arith, L
 use Rattle.std.specs.Prelude.{sum_by, All, IsFalse, Vec}
 use Rattle.std.proofs.lemmas.List.Elements.{All-nil}
 use Rattle.std.proofs.lemmas.List.Sums.{sum_by-drop_more, sum_by_more_le}
-use Rattle.flt_script.specs.declared.step.Part.{Part}
-use Rattle.flt_script.specs.Part.{parts_of}
+use Rattle.flt_step.specs.declared.step.Part.{Part}
+use Rattle.flt_step.specs.Part.{parts_of}
 use Rattle.flt_store.specs.Store.{driver_of}
 use Rattle.flt_store.specs.Cause.{HasRoom}
-use Rattle.flt_life.specs.declared.life.Life.{Life}
-use Rattle.flt_life.specs.Parts.{arms_in, steps_in, widths}
-use Rattle.flt_life.specs.Chain.{LifeView}
-use Rattle.flt_life.specs.Lives.{is_refused, lists, lives_seen}
-use Rattle.flt_life.proofs.Giving.{all_given}
+use Rattle.flt_life_model.specs.declared.life.Life.{Life}
+use Rattle.flt_life_model.specs.Parts.{arms_in, steps_in, widths}
+use Rattle.flt_life_model.specs.Chain.{LifeView}
+use Rattle.flt_life_model.specs.Lives.{is_refused, lists, lives_seen}
+use Rattle.flt_life_model.proofs.Giving.{all_given}
 use Rattle.flt_lives.proofs.Linking.{linked_of}
 use Rattle.flt_lives.proofs.Beginning.{none_begun, begun_next, begun_within}
 use Rattle.flt_lives.proofs.Following.{none_made, one_made, one_goes, ended_by, ended_all}

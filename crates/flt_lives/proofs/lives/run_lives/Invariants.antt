@@ -1,12 +1,12 @@
 use Rattle.std.proofs.Common.{◌≡◌, ◌+◌, ◌≤◌, length, drop}
 use Rattle.std.specs.Prelude.{sum_by, All, IsFalse}
-use Rattle.flt_script.specs.Part.{parts_of}
+use Rattle.flt_step.specs.Part.{parts_of}
 use Rattle.flt_store.specs.Store.{driver_of}
 use Rattle.flt_store.specs.Cause.{HasRoom}
-use Rattle.flt_life.specs.Parts.{arms_in}
-use Rattle.flt_life.specs.Chain.{LifeView}
-use Rattle.flt_life.specs.Lives.{StaysSound, is_refused, lists, lives_seen}
-use Rattle.flt_life.specs.Moment.{moment_of}
+use Rattle.flt_life_model.specs.Parts.{arms_in}
+use Rattle.flt_life_model.specs.Chain.{LifeView}
+use Rattle.flt_life_model.specs.Lives.{StaysSound, is_refused, lists, lives_seen}
+use Rattle.flt_life_model.specs.Moment.{moment_of}
 use Rattle.flt_lives.proofs.Following.{AreMadeSoFar}
 use Rattle.flt_lives.proofs.lives.run_lives.Given as goal
 

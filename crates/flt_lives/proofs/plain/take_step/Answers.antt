@@ -1,11 +1,11 @@
 use Rattle.std.proofs.Common.{◌≡◌, ◌≤◌, reverse, ap, sym, subst, arith}
 use Rattle.flt_dcm.specs.Whole.{state_of}
-use Rattle.flt_life.specs.declared.action.Action.{Action}
-use Rattle.flt_life.specs.Actions.{action_of, response_size, call_count}
-use Rattle.flt_life.specs.Answers.{Told, told_with, response_length}
+use Rattle.flt_life_model.specs.declared.action.Action.{Action}
+use Rattle.flt_life_model.specs.Actions.{action_of, response_size, call_count}
+use Rattle.flt_life_model.specs.Answers.{Told, told_with, response_length}
 use Rattle.flt_lives.specs.Carried.{IsCarriedOut}
-use Rattle.flt_life.specs.Chain.{start_from}
-use Rattle.flt_life.specs.SoFar.{IsCaused}
+use Rattle.flt_life_model.specs.Chain.{start_from}
+use Rattle.flt_life_model.specs.SoFar.{IsCaused}
 use Rattle.flt_lives.specs.Living.{IsLiving, with_answer}
 use Rattle.flt_lives.proofs.Rooms.{response_fits, room_after}
 use Rattle.flt_lives.proofs.plain.take_step.Goals as goal

@@ -3,26 +3,26 @@ use Rattle.std.specs.Prelude.{sum_by, All}
 use Rattle.std.proofs.lemmas.List.{length-append, take_all}
 use Rattle.std.proofs.lemmas.List.Sums.{sum_by-cons}
 use Rattle.std.proofs.lemmas.List.Elements.{All-head, All-tail}
-use Rattle.flt_script.specs.declared.step.Part.{Part}
-use Rattle.flt_script.specs.declared.step.Step.{Step}
-use Rattle.flt_script.specs.Part.{PartOf, part_of, parts_of}
-use Rattle.flt_life.specs.Actions.{IsPossible, action_of, all_arms, arms_of, arm_count}
-use Rattle.flt_life.specs.Answers.{Told}
-use Rattle.flt_life.specs.Played.{IsLife}
-use Rattle.flt_life.specs.Journal.{Journal}
-use Rattle.flt_life.specs.Room.{told_in}
-use Rattle.flt_life.proofs.Sizes.{own_count}
+use Rattle.flt_step.specs.declared.step.Part.{Part}
+use Rattle.flt_step.specs.declared.step.Step.{Step}
+use Rattle.flt_step.specs.Part.{PartOf, part_of, parts_of}
+use Rattle.flt_life_model.specs.Actions.{IsPossible, action_of, all_arms, arms_of, arm_count}
+use Rattle.flt_life_model.specs.Answers.{Told}
+use Rattle.flt_life_model.specs.Played.{IsLife}
+use Rattle.flt_life_model.specs.Journal.{Journal}
+use Rattle.flt_life_model.specs.Room.{told_in}
+use Rattle.flt_life_model.proofs.Sizes.{own_count}
 use Rattle.flt_dcm.specs.Whole.{state_of}
 use Rattle.flt_lives.specs.Alone.{IsAlone, actions_in}
-use Rattle.flt_life.specs.Chain.{start_from}
+use Rattle.flt_life_model.specs.Chain.{start_from}
 use Rattle.flt_store.specs.Store.{driver_of}
-use Rattle.flt_life.specs.Going.{WereGiven}
-use Rattle.flt_life.specs.SoFar.{IsCaused}
+use Rattle.flt_life_model.specs.Going.{WereGiven}
+use Rattle.flt_life_model.specs.SoFar.{IsCaused}
 use Rattle.flt_lives.specs.Living.{HasRoomFor, IsLiving, deeds_told, with_answer}
 use Rattle.flt_lives.proofs.Deeds.{deeds_told_more}
-use Rattle.flt_life.proofs.Riding.{goes_further, goes_nowhere}
+use Rattle.flt_life_model.proofs.Riding.{goes_further, goes_nowhere}
 use Rattle.flt_lives.proofs.Playing.{life_more, no_parts}
-use Rattle.flt_life.proofs.Giving.{given_further, arms_more, none_given}
+use Rattle.flt_life_model.proofs.Giving.{given_further, arms_more, none_given}
 use Rattle.flt_lives.proofs.Rooms.{left_more, made_more, parts_are, one_of, one_alone}
 use Rattle.flt_lives.proofs.plain.take_steps.Goals as goal
 

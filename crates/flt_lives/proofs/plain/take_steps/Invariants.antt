@@ -1,17 +1,17 @@
 use Rattle.std.proofs.Common.{◌≡◌, ◌+◌, ◌≤◌, length, take, drop, [], ℕ}
 use Rattle.std.specs.Prelude.{reverse, sum_by, All}
-use Rattle.flt_generation.specs.Holding.{Generation, SameApplications}
+use Rattle.flt_store_model.specs.Holding.{Generation, SameApplications}
 use Rattle.flt_dcm.specs.Whole.{config_of, state_of}
 use Rattle.flt_store.specs.Store.{driver_of, IsAlive}
-use Rattle.flt_script.specs.Part.{parts_of}
-use Rattle.flt_life.specs.Actions.{all_arms, arm_count, IsPossible}
-use Rattle.flt_life.specs.Chain.{start_from}
-use Rattle.flt_life.specs.Parts.{own_steps}
-use Rattle.flt_life.specs.Played.{IsLife}
-use Rattle.flt_life.specs.Room.{told_in}
+use Rattle.flt_step.specs.Part.{parts_of}
+use Rattle.flt_life_model.specs.Actions.{all_arms, arm_count, IsPossible}
+use Rattle.flt_life_model.specs.Chain.{start_from}
+use Rattle.flt_life_model.specs.Parts.{own_steps}
+use Rattle.flt_life_model.specs.Played.{IsLife}
+use Rattle.flt_life_model.specs.Room.{told_in}
 use Rattle.flt_lives.specs.Alone.{actions_in}
-use Rattle.flt_life.specs.Going.{GoesOn, WereGiven}
-use Rattle.flt_life.specs.SoFar.{IsCaused}
+use Rattle.flt_life_model.specs.Going.{GoesOn, WereGiven}
+use Rattle.flt_life_model.specs.SoFar.{IsCaused}
 use Rattle.flt_lives.specs.Living.{IsUnderWay, IsLiving, HasRoomFor, deeds_told}
 use Rattle.flt_lives.proofs.plain.take_steps.Given as goal
 

@@ -1,5 +1,5 @@
 use Rattle.flt_dcm.specs.Whole.{config_of, state_of}
-use Rattle.flt_life.specs.Chain.{start_from}
+use Rattle.flt_life_model.specs.Chain.{start_from}
 use Rattle.flt_lives.proofs.Rooms.{no_response}
 use Rattle.flt_lives.proofs.step.call.Goals as goal
 

@@ -4,26 +4,26 @@ use Rattle.flt_dcm.specs.ReplyKind.{reply_with}
 use Rattle.flt_model.specs.Reply.{Reply}
 use Rattle.flt_turn.specs.declared.answer.Answer.{Answer}
 use Rattle.flt_flash.specs.Blocks.{BlocksState}
-use Rattle.flt_generation.specs.Layout.{application_number}
-use Rattle.flt_life.specs.Answers.{reply_size}
+use Rattle.flt_store_model.specs.Layout.{application_number}
+use Rattle.flt_life_model.specs.Answers.{reply_size}
 use Rattle.flt_lives.specs.Carried.{answer_at}
-use Rattle.flt_life.specs.Actions.{arms_of}
-use Rattle.flt_life.specs.Going.{WereGiven}
-use Rattle.flt_life.specs.declared.action.Action.{Action}
-use Rattle.flt_life.specs.declared.action.Action.TheVariants as actions
-use Rattle.flt_life.specs.declared.answer.StepAnswer.TheVariants as answers
+use Rattle.flt_life_model.specs.Actions.{arms_of}
+use Rattle.flt_life_model.specs.Going.{WereGiven}
+use Rattle.flt_life_model.specs.declared.action.Action.{Action}
+use Rattle.flt_life_model.specs.declared.action.Action.TheVariants as actions
+use Rattle.flt_life_model.specs.declared.answer.StepAnswer.TheVariants as answers
 use Rattle.flt_store.specs.Store.{driver_of, IsAlive}
 use Rattle.flt_dcm.specs.Whole.{state_of}
-use Rattle.flt_life.specs.Actions.{IsPossible, response_size}
+use Rattle.flt_life_model.specs.Actions.{IsPossible, response_size}
 use Rattle.flt_lives.specs.Carried.{IsCarriedOut}
-use Rattle.flt_life.specs.Chain.{start_from}
-use Rattle.flt_life.specs.Journal.{Journal, entry}
-use Rattle.flt_life.specs.SoFar.{IsCaused}
+use Rattle.flt_life_model.specs.Chain.{start_from}
+use Rattle.flt_life_model.specs.Journal.{Journal, entry}
+use Rattle.flt_life_model.specs.SoFar.{IsCaused}
 use Rattle.flt_lives.specs.Living.{IsLiving, with_answer}
-use Rattle.flt_life.proofs.Keeping.{kept_entry}
-use Rattle.flt_life.proofs.Riding.{goes_nowhere}
-use Rattle.flt_life.proofs.Causing.{caused_arm}
-use Rattle.flt_life.proofs.Giving.{none_given}
+use Rattle.flt_life_model.proofs.Keeping.{kept_entry}
+use Rattle.flt_life_model.proofs.Riding.{goes_nowhere}
+use Rattle.flt_life_model.proofs.Causing.{caused_arm}
+use Rattle.flt_life_model.proofs.Giving.{none_given}
 use Rattle.flt_lives.proofs.Rooms.{size_of_call}
 use Rattle.flt_lives.proofs.step.make_step.Goals as goal
 

@@ -1,14 +1,14 @@
 use Rattle.std.proofs.Common.{◌≡◌, ◌∙◌, ◌∷◌, Err, ap, refl, sym, subst, reverse}
 use Rattle.flt_model.specs.declared.call.Op.TheVariants as ops
 use Rattle.flt_dcm.specs.Whole.{state_of}
-use Rattle.flt_life.specs.declared.answer.StepAnswer.TheVariants as answers
-use Rattle.flt_life.specs.Journal.{Journal, entry, calls_of}
-use Rattle.flt_life.specs.Chain.{start_from}
+use Rattle.flt_life_model.specs.declared.answer.StepAnswer.TheVariants as answers
+use Rattle.flt_life_model.specs.Journal.{Journal, entry, calls_of}
+use Rattle.flt_life_model.specs.Chain.{start_from}
 use Rattle.flt_lives.specs.Living.{IsLiving}
-use Rattle.flt_life.proofs.Keeping.{kept_saved, kept_failed}
-use Rattle.flt_life.proofs.Causing.{caused_saved, caused_failed}
-use Rattle.flt_life.proofs.Giving.{none_since}
-use Rattle.flt_life.proofs.Riding.{goes_by_calls}
+use Rattle.flt_life_model.proofs.Keeping.{kept_saved, kept_failed}
+use Rattle.flt_life_model.proofs.Causing.{caused_saved, caused_failed}
+use Rattle.flt_life_model.proofs.Giving.{none_since}
+use Rattle.flt_life_model.proofs.Riding.{goes_by_calls}
 use Rattle.flt_store.specs.Store.{driver_of}
 use Rattle.flt_lives.proofs.step.save.Goals as goal
 

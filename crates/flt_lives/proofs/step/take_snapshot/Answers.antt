@@ -1,7 +1,7 @@
 use Rattle.std.proofs.Common.{sym, subst}
 use Rattle.flt_config.specs.Durable.{Fits}
 use Rattle.flt_dcm.specs.Whole.{config_of, state_of}
-use Rattle.flt_life.specs.Chain.{start_from}
+use Rattle.flt_life_model.specs.Chain.{start_from}
 use Rattle.flt_model.proofs.SavedFits.{saved_states_fit}
 use Rattle.flt_lives.proofs.step.take_snapshot.Goals as goal
 

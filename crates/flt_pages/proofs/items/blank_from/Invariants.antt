@@ -1,7 +1,7 @@
 use Rattle.std.proofs.Common.{◌≡◌, ◌≤◌, ◌+◌, ◌-◌}
 use Rattle.flt_flash.specs.Image.{sector_at}
 use Rattle.flt_flash.specs.State.{OnlyReads}
-use Rattle.flt_sector.specs.Log.{first_written}
+use Rattle.flt_sector_model.specs.Log.{first_written}
 use Rattle.flt_pages.proofs.items.blank_from.Given as goal
 
 abbrev pub invariant-loop-at : goal.invariant-loop-at

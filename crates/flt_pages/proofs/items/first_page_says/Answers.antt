@@ -1,6 +1,6 @@
 use Rattle.std.proofs.Common.{sym, ◌∙◌, ap}
 use Rattle.flt_flash.specs.Image.{blank_page}
-use Rattle.flt_sector.specs.Log.{item_by_code, item_by_head}
+use Rattle.flt_sector_model.specs.Log.{item_by_code, item_by_head}
 use Rattle.flt_pages.proofs.ItemCases.{item_by}
 use Rattle.flt_pages.proofs.items.first_page_says.Goals as goal
 

@@ -2,7 +2,7 @@ use Rattle.std.proofs.Common.{◌≡◌, ◌+◌, ◌-◌, ℕ, List, Ok, Err, O
 use Rattle.flt_flash.specs.Image.{sector_at}
 use Rattle.flt_flash.proofs.Following.{no_reads, reads_on}
 use Rattle.flt_flash.specs.Blocks.{byte_pages}
-use Rattle.flt_sector.specs.Log.{item_at, log, first_written}
+use Rattle.flt_sector_model.specs.Log.{item_at, log, first_written}
 use Rattle.flt_pages.specs.Told.{TellsOrFails, told_end}
 use Rattle.flt_pages.proofs.Scanning.{GoesOn, from_start, item_told, torn_on, kept_on, at_end, at_fault, handed_on, flash_handed, item_fault, blank_fault, blank_end}
 use Rattle.flt_pages.specs.declared.place.RecordPlace.{RecordPlace}

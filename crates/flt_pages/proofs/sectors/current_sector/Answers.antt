@@ -1,7 +1,7 @@
 use Rattle.std.proofs.Common.{refl}
 use Rattle.flt_flash.specs.Image.{sector_at}
-use Rattle.flt_sector.specs.Gates.{gates_of}
-use Rattle.flt_sector.specs.Blocks.{current}
+use Rattle.flt_sector_model.specs.Gates.{gates_of}
+use Rattle.flt_sector_model.specs.Blocks.{current}
 use Rattle.flt_pages.specs.Told.{TellsOrFails, told_current}
 use Rattle.flt_pages.proofs.Scanning.{handed_on}
 use Rattle.flt_pages.proofs.Placing.{first_fault_told, second_fault_told, both_told, same_told, second_told, first_told}

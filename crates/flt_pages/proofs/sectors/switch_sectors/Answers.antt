@@ -1,6 +1,6 @@
 use Rattle.std.proofs.Common.{◌≡◌, ◌+◌, ◌≤◌, ◌∙◌, ℕ, List, None, sym, subst, arith}
 use Rattle.flt_flash.proofs.Following.{runs_on, one_run}
-use Rattle.flt_sector.specs.Log.{log}
+use Rattle.flt_sector_model.specs.Log.{log}
 use Rattle.flt_pages.specs.LogHolds.{LogHolds}
 use Rattle.flt_pages.specs.Live.{held_in, current_pages}
 use Rattle.flt_pages.specs.RecordPlace.{TellsPlaces}

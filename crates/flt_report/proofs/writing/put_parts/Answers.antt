@@ -3,13 +3,13 @@ use Rattle.std.specs.Prelude.{Vec, slice_index_or}
 use Rattle.std.specs.Io.KnownBytes.{Appends}
 use Rattle.std.proofs.lemmas.List.{append-nil, drop-map, length-map}
 use Rattle.flt_io.specs.Sink.{AppendsFront}
-use Rattle.flt_script.specs.declared.step.Step.{Step}
-use Rattle.flt_script.specs.Part.{part_of, parts_of}
-use Rattle.flt_life.specs.declared.answer.StepAnswer.TheVariants as answers
-use Rattle.flt_life.specs.Answers.{reply_in, with_reply}
-use Rattle.flt_life.specs.Parts.{width}
-use Rattle.flt_life.specs.Room.{told_in}
-use Rattle.flt_life.proofs.Sizes.{no_widths_more, widths_with, widths_within}
+use Rattle.flt_step.specs.declared.step.Step.{Step}
+use Rattle.flt_step.specs.Part.{part_of, parts_of}
+use Rattle.flt_life_model.specs.declared.answer.StepAnswer.TheVariants as answers
+use Rattle.flt_life_model.specs.Answers.{reply_in, with_reply}
+use Rattle.flt_life_model.specs.Parts.{width}
+use Rattle.flt_life_model.specs.Room.{told_in}
+use Rattle.flt_life_model.proofs.Sizes.{no_widths_more, widths_with, widths_within}
 use Rattle.flt_report.specs.Answer.{step_line}
 use Rattle.flt_report.specs.Left.{IsWritten}
 use Rattle.flt_report.specs.Life.{lane_steps, block_text, parts_text}

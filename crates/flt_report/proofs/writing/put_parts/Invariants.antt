@@ -1,7 +1,7 @@
 use Rattle.std.proofs.Common.{◌≡◌, ◌≤◌, ◌++◌, length, map, take}
-use Rattle.flt_script.specs.Part.{parts_of}
-use Rattle.flt_life.specs.Parts.{widths}
-use Rattle.flt_life.specs.Room.{told_in}
+use Rattle.flt_step.specs.Part.{parts_of}
+use Rattle.flt_life_model.specs.Parts.{widths}
+use Rattle.flt_life_model.specs.Room.{told_in}
 use Rattle.flt_report.specs.Life.{parts_text}
 use Rattle.flt_report.proofs.PartsLeft.{parts_left}
 use Rattle.flt_report.specs.Left.{IsWritten}

@@ -2,7 +2,7 @@ use Rattle.std.proofs.Common.{◌≡◌, ◌++◌, map, append_assoc, subst, rul
 use Rattle.std.proofs.KnownBytes.{Appends-trans}
 use Rattle.std.specs.Io.KnownBytes.{Appends}
 use Rattle.flt_io.specs.Sink.{AppendsFront}
-use Rattle.flt_life.specs.Room.{told_in}
+use Rattle.flt_life_model.specs.Room.{told_in}
 use Rattle.flt_report.specs.Block.{par_line, end_line}
 use Rattle.flt_report.specs.Life.{lane_steps, lanes_text}
 use Rattle.flt_report.proofs.Written.{front_first, front_behind, front_next, front_of}

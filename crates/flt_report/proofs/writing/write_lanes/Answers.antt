@@ -1,8 +1,8 @@
 use Rattle.std.proofs.Common.{◌≡◌, ℕ, Option, List, ◌<◌, ◌+◌, ◌++◌, length, get_or, sym, ap, subst, arith, rules, ◌∙◌}
 use Rattle.std.specs.Prelude.{Vec}
-use Rattle.flt_script.specs.declared.step.Step.{Step}
-use Rattle.flt_life.specs.declared.replies.LaneReplies.{LaneReplies}
-use Rattle.flt_life.specs.Room.{told_in}
+use Rattle.flt_step.specs.declared.step.Step.{Step}
+use Rattle.flt_life_model.specs.declared.replies.LaneReplies.{LaneReplies}
+use Rattle.flt_life_model.specs.Room.{told_in}
 use Rattle.flt_report.specs.Left.{IsWritten}
 use Rattle.flt_report.specs.Life.{lane_text}
 use Rattle.flt_report.proofs.Written.{goes_on, stops, ends, lanes_left, lanes_more, lanes_end}

@@ -1,5 +1,5 @@
 use Rattle.std.proofs.Common.{◌≤◌, map}
-use Rattle.flt_life.specs.Room.{told_in}
+use Rattle.flt_life_model.specs.Room.{told_in}
 use Rattle.flt_report.specs.Left.{IsWritten}
 use Rattle.flt_report.specs.Life.{lane_steps, lanes_text}
 use Rattle.flt_report.proofs.Written.{lanes_left}

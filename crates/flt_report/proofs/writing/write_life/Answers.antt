@@ -1,11 +1,11 @@
 use Rattle.std.proofs.Common.{◌≡◌, ℕ, Option, ◌-◌, ◌≤◌, ◌++◌, List, [], ◌∷◌, take, drop, length, map, get_or, inl, inr, ap, sym, subst, arith, rules, ◌∙◌}
 use Rattle.std.specs.Io.KnownBytes.{Appends}
 use Rattle.flt_io.specs.Sink.{AppendsFront}
-use Rattle.flt_script.specs.Part.{PartOf, parts_of}
-use Rattle.flt_script.specs.declared.step.Step.{Step}
-use Rattle.flt_life.specs.declared.life.Boot.{Boot}
-use Rattle.flt_life.specs.declared.replies.LaneReplies.{LaneReplies}
-use Rattle.flt_life.specs.Room.{told_in}
+use Rattle.flt_step.specs.Part.{PartOf, parts_of}
+use Rattle.flt_step.specs.declared.step.Step.{Step}
+use Rattle.flt_life_model.specs.declared.life.Boot.{Boot}
+use Rattle.flt_life_model.specs.declared.replies.LaneReplies.{LaneReplies}
+use Rattle.flt_life_model.specs.Room.{told_in}
 use Rattle.flt_report.specs.Boot.{boot_line}
 use Rattle.flt_report.specs.Left.{IsWritten}
 use Rattle.flt_report.specs.Life.{life_text, made_text, parts_text, told_text}

@@ -1,6 +1,6 @@
 use Rattle.std.proofs.Common.{map, subst, rules}
 use Rattle.std.specs.Io.KnownBytes.{Appends}
-use Rattle.flt_life.specs.Room.{told_in}
+use Rattle.flt_life_model.specs.Room.{told_in}
 use Rattle.flt_report.specs.Life.{lane_steps, block_text}
 use Rattle.flt_report.proofs.Written.{front_next}
 use Rattle.flt_report.proofs.writing.write_next_block.Goals as goal

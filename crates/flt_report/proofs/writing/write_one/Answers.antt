@@ -1,9 +1,9 @@
 use Rattle.std.proofs.KnownBytes.{Appends-nil}
 use Rattle.std.proofs.Common.{◌≡◌, ℕ, List, ◌++◌, get_or, subst, sym, ap, ◌∙◌, arith, rules}
 use Rattle.std.proofs.lemmas.List.{get_or-map}
-use Rattle.flt_life.specs.declared.answer.StepAnswer.TheVariants as answers
-use Rattle.flt_life.specs.Answers.{Told, reply_in, with_reply}
-use Rattle.flt_life.specs.Room.{told_in}
+use Rattle.flt_life_model.specs.declared.answer.StepAnswer.TheVariants as answers
+use Rattle.flt_life_model.specs.Answers.{Told, reply_in, with_reply}
+use Rattle.flt_life_model.specs.Room.{told_in}
 use Rattle.flt_report.specs.Answer.{step_line}
 use Rattle.flt_report.specs.Left.{IsWritten}
 use Rattle.flt_report.proofs.Written.{starts}

@@ -1,7 +1,7 @@
 use Rattle.std.proofs.Common.{◌≡◌, ℕ, Option, List, ◌<◌, ◌+◌, ◌++◌, length, get_or, sym, subst, arith, rules, ◌∙◌}
-use Rattle.flt_script.specs.declared.step.Step.{Step}
-use Rattle.flt_life.specs.declared.answer.StepAnswer.{StepAnswer}
-use Rattle.flt_life.specs.Answers.{KeptReply, with_reply, reply_in}
+use Rattle.flt_step.specs.declared.step.Step.{Step}
+use Rattle.flt_life_model.specs.declared.answer.StepAnswer.{StepAnswer}
+use Rattle.flt_life_model.specs.Answers.{KeptReply, with_reply, reply_in}
 use Rattle.flt_report.specs.Answer.{step_line}
 use Rattle.flt_report.specs.Left.{IsWritten}
 use Rattle.flt_report.proofs.Written.{starts, goes_on, stops, so_far, ends, steps_left, steps_more, steps_end}

@@ -1,5 +1,5 @@
 use Rattle.std.proofs.Common.{◌≤◌}
-use Rattle.flt_life.specs.Room.{told_in}
+use Rattle.flt_life_model.specs.Room.{told_in}
 use Rattle.flt_report.specs.Life.{lines_text}
 use Rattle.flt_report.specs.Left.{IsWritten}
 use Rattle.flt_report.proofs.Written.{steps_left}

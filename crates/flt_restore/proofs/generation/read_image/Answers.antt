@@ -1,8 +1,8 @@
 use Rattle.std.proofs.Common.{◌≡◌, Ok}
 use Rattle.flt_flash.specs.Content.{Content}
 use Rattle.flt_nvm.specs.Driver.{driver_of}
-use Rattle.flt_generation.specs.Layout.{mark_number}
-use Rattle.flt_generation.specs.Holding.{marked, applications_judged, excess_judged}
+use Rattle.flt_store_model.specs.Layout.{mark_number}
+use Rattle.flt_store_model.specs.Holding.{marked, applications_judged, excess_judged}
 use Rattle.flt_restore.specs.Found.{content_of}
 use Rattle.flt_restore.proofs.Telling.{handed_on, same_values, step_ok, step_told}
 use Rattle.flt_restore.proofs.Naming.{mark_refused, named_refused, applications_refused, excess_refused, all_told}

@@ -1,8 +1,8 @@
 use Rattle.std.proofs.Common.{◌≡◌, Result, arith, refl, ap, ◌∙◌, sym, Ok}
 use Rattle.flt_config.specs.declared.persist.Persist.{Persist}
 use Rattle.flt_nvm.specs.Driver.{driver_of}
-use Rattle.flt_generation.specs.Layout.{parts}
-use Rattle.flt_generation.specs.Holding.{Fault, parts_read}
+use Rattle.flt_store_model.specs.Layout.{parts}
+use Rattle.flt_store_model.specs.Holding.{Fault, parts_read}
 use Rattle.flt_restore.specs.Judging.{Tells}
 use Rattle.flt_restore.proofs.Telling.{handed_on, no_reads, more_reads}
 use Rattle.flt_restore.proofs.Failing.{part_unread_from, was_flash}

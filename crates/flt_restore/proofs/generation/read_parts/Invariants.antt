@@ -1,6 +1,6 @@
 use Rattle.std.proofs.Common.{◌≡◌, ◌-◌, length, Ok}
 use Rattle.flt_nvm.specs.Driver.{driver_of, table_of}
-use Rattle.flt_generation.specs.Holding.{parts_read}
+use Rattle.flt_store_model.specs.Holding.{parts_read}
 use Rattle.flt_restore.specs.Found.{Reads}
 use Rattle.flt_restore.proofs.generation.read_parts.Given as goal
 

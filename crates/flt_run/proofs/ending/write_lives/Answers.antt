@@ -2,9 +2,9 @@ use Rattle.std.proofs.Common.{◌≡◌, ◌<◌, ◌+◌, length, get_or, ap, s
 use Rattle.std.specs.Prelude.{Vec}
 use Rattle.std.specs.Io.KnownBytes.{Appends}
 use Rattle.flt_io.specs.Sink.{AppendsFront}
-use Rattle.flt_script.specs.declared.step.Part.{Part}
-use Rattle.flt_life.specs.declared.life.Life.{Life}
-use Rattle.flt_script.specs.Part.{parts_of}
+use Rattle.flt_step.specs.declared.step.Part.{Part}
+use Rattle.flt_life_model.specs.declared.life.Life.{Life}
+use Rattle.flt_step.specs.Part.{parts_of}
 use Rattle.flt_report.specs.Left.{IsWritten}
 use Rattle.flt_run.specs.Left.{lives_left}
 use Rattle.flt_report.specs.Life.{life_text}

@@ -1,7 +1,7 @@
 use Rattle.std.proofs.Common.{◌≡◌, take}
 use Rattle.std.specs.Prelude.{sum_by}
-use Rattle.flt_script.specs.Part.{parts_of}
-use Rattle.flt_script.specs.Step.{steps_of}
+use Rattle.flt_step.specs.Part.{parts_of}
+use Rattle.flt_step.specs.Step.{steps_of}
 use Rattle.flt_run.proofs.line.step_count.Given as goal
 
 abbrev pub invariant-loop-life : goal.invariant-loop-life

@@ -2,9 +2,9 @@ use Rattle.std.proofs.Common.{ℕ, arith, ap, sym, ◌∙◌}
 use Rattle.std.specs.Prelude.{sum_by}
 use Rattle.std.proofs.lemmas.List.{take_all}
 use Rattle.std.proofs.lemmas.List.Sums.{sum_by_more, sum_by_more_le}
-use Rattle.flt_script.specs.declared.step.Part.{Part}
-use Rattle.flt_script.specs.Part.{part_of}
-use Rattle.flt_script.specs.Step.{steps_of_part}
+use Rattle.flt_step.specs.declared.step.Part.{Part}
+use Rattle.flt_step.specs.Part.{part_of}
+use Rattle.flt_step.specs.Step.{steps_of_part}
 use Rattle.flt_run.proofs.Counted.{sum_mapped}
 use Rattle.flt_run.proofs.line.steps_of.Goals as goal
 

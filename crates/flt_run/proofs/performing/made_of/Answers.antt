@@ -1,8 +1,8 @@
 use Rattle.std.proofs.Common.{subst, Option}
 use Rattle.std.specs.Prelude.{All, IfSome, Vec, ◌≢◌}
 use Rattle.flt_restore.specs.declared.fault.StartFault.TheVariants.{Flash}
-use Rattle.flt_life.specs.declared.life.Boot.TheVariants.{Refused}
-use Rattle.flt_life.specs.declared.life.Life.{Life}
+use Rattle.flt_life_model.specs.declared.life.Boot.TheVariants.{Refused}
+use Rattle.flt_life_model.specs.declared.life.Life.{Life}
 use Rattle.flt_report.proofs.Possible.{each_few}
 use Rattle.flt_run.proofs.performing.made_of.Goals as goal
 

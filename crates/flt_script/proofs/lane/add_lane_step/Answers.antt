@@ -1,6 +1,6 @@
 use Rattle.std.proofs.Common.{◌≡◌, ◌<◌, ◌-◌, ◌∷◌, ◌++◌, ◌&&◌, ◌||◌, [], true, refl, sym, ◌∙◌, arith, rules}
 use Rattle.std.specs.Prelude.{not, vec_len}
-use Rattle.flt_script.specs.Step.{is_lane_step, is_store_step}
+use Rattle.flt_step.specs.Step.{is_lane_step, is_store_step}
 use Rattle.flt_script.proofs.InMemory.{last_kept, lane_written}
 use Rattle.flt_script.proofs.lane.add_lane_step.Goals as goal
 

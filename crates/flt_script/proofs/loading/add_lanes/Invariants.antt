@@ -1,7 +1,7 @@
 use Rattle.std.proofs.Common.{◌≡◌, ◌++◌}
 use Rattle.std.specs.List.{flat_map}
 use Rattle.flt_script.specs.Load.{plain_parts}
-use Rattle.flt_script.specs.Part.{parts_of}
+use Rattle.flt_step.specs.Part.{parts_of}
 use Rattle.flt_script.proofs.InMemory.{steps_of_lanes}
 use Rattle.flt_script.proofs.loading.add_lanes.Given as goal
 

@@ -1,6 +1,6 @@
 use Rattle.std.proofs.Common.{◌≡◌, ◌++◌}
 use Rattle.flt_script.specs.Load.{plain_parts}
-use Rattle.flt_script.specs.Part.{parts_of}
+use Rattle.flt_step.specs.Part.{parts_of}
 use Rattle.flt_script.proofs.loading.add_steps.Given as goal
 
 abbrev pub invariant-loop-step : goal.invariant-loop-step

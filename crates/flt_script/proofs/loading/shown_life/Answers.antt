@@ -2,9 +2,9 @@ use Rattle.std.proofs.Common.{◌∷◌, [], refl, arith, map}
 use Rattle.std.specs.List.{range_with_len}
 use Rattle.std.proofs.lemmas.List.{map-append}
 use Rattle.std.proofs.lemmas.List.FromFn.{map-range_with_len_more}
-use Rattle.flt_script.specs.declared.step.Part.TheVariants.{One}
-use Rattle.flt_script.specs.declared.step.Step.TheVariants.{Show}
-use Rattle.flt_script.specs.Part.{part_of}
+use Rattle.flt_step.specs.declared.step.Part.TheVariants.{One}
+use Rattle.flt_step.specs.declared.step.Step.TheVariants.{Show}
+use Rattle.flt_step.specs.Part.{part_of}
 use Rattle.flt_script.proofs.Loads.{plain_more}
 use Rattle.flt_script.proofs.loading.shown_life.Goals as goal
 

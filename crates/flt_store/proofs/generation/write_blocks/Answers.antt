@@ -6,7 +6,7 @@ use Rattle.flt_flash.specs.Blocks.{record_pages}
 use Rattle.flt_store.proofs.Causes.{within_on, none_written}
 use Rattle.flt_store.proofs.Costs.{spends_start, spends_through, spends_to_the_end}
 use Rattle.flt_store.proofs.Successors.{used_of}
-use Rattle.flt_generation.proofs.Pages.{used_range}
+use Rattle.flt_store_model.proofs.Pages.{used_range}
 use Rattle.flt_store.proofs.Writing.{written_more, only_more}
 use Rattle.flt_store.proofs.generation.write_blocks.Goals as goal
 

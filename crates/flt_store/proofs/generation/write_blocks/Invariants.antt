@@ -3,8 +3,8 @@ use Rattle.std.specs.Prelude.{IsTrue, IsFalse}
 use Rattle.flt_flash.specs.Content.{bytes}
 use Rattle.flt_flash.specs.Calls.{Follows}
 use Rattle.flt_nvm.specs.Driver.{driver_of, table_of}
-use Rattle.flt_generation.specs.Layout.{number_of, index_in}
-use Rattle.flt_generation.specs.Successor.{OnlyNewBlocks, is_written}
+use Rattle.flt_store_model.specs.Layout.{number_of, index_in}
+use Rattle.flt_store_model.specs.Successor.{OnlyNewBlocks, is_written}
 use Rattle.flt_image.specs.Blocks.{bytes_at}
 use Rattle.flt_flash.specs.Blocks.{record_pages}
 use Rattle.flt_store.specs.Cause.{IsWithinOwn}

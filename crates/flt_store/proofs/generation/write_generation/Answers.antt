@@ -2,15 +2,15 @@ use Rattle.std.specs.Prelude.{IsFalse}
 use Rattle.std.proofs.Common.{◌≡◌, ◌∙◌, ◌+◌, ◌*◌, ℕ, List, length, ap, arith}
 use Rattle.flt_flash.specs.Content.{bytes}
 use Rattle.flt_nvm.specs.Driver.{driver_of}
-use Rattle.flt_generation.proofs.Commits.{commit_size}
+use Rattle.flt_store_model.proofs.Commits.{commit_size}
 use Rattle.flt_image.specs.Blocks.{bytes_at}
 use Rattle.flt_store.specs.Started.{next_generation}
 use Rattle.flt_store.proofs.TableUse.{commit_index, commit_fits, commit_both}
 use Rattle.flt_store.proofs.Causes.{both_written, writes_handed, writes_on}
 use Rattle.std.proofs.Math.Nat.{add-mul}
 use Rattle.flt_flash.specs.Blocks.{record_pages}
-use Rattle.flt_generation.specs.Layout.{used_ids}
-use Rattle.flt_generation.specs.Form.{block_bytes, commit_length_2}
+use Rattle.flt_store_model.specs.Layout.{used_ids}
+use Rattle.flt_store_model.specs.Form.{block_bytes, commit_length_2}
 use Rattle.flt_store.specs.Cost.{Spends, pages_to_write}
 use Rattle.flt_store.proofs.Changed.{written_pages}
 use Rattle.flt_store.proofs.Costs.{spends_more, spends_less, jobs_spend, limit_of_used}

@@ -2,10 +2,10 @@ use Rattle.std.proofs.Common.{◌∙◌, ℕ, List, length, sym, ap, arith}
 use Rattle.flt_flash.specs.Content.{bytes}
 use Rattle.flt_flash.specs.Blocks.{record_pages}
 use Rattle.flt_nvm.specs.Driver.{driver_of}
-use Rattle.flt_generation.specs.Layout.{number_of, part_of}
-use Rattle.flt_generation.proofs.Pages.{own_part}
-use Rattle.flt_generation.specs.Successor.{is_written}
-use Rattle.flt_generation.proofs.Choices.{chosen}
+use Rattle.flt_store_model.specs.Layout.{number_of, part_of}
+use Rattle.flt_store_model.proofs.Pages.{own_part}
+use Rattle.flt_store_model.specs.Successor.{is_written}
+use Rattle.flt_store_model.proofs.Choices.{chosen}
 use Rattle.flt_image.specs.Blocks.{bytes_at}
 use Rattle.flt_image.proofs.Sizing.{part_short}
 use Rattle.flt_store.proofs.TableUse.{part_index, part_fits, part_alone}

@@ -1,6 +1,6 @@
 use Rattle.std.proofs.Common.{◌∙◌, sym}
 use Rattle.flt_nvm.specs.Driver.{driver_of}
-use Rattle.flt_generation.proofs.Commits.{read_commit}
+use Rattle.flt_store_model.proofs.Commits.{read_commit}
 use Rattle.flt_store.proofs.TableUse.{commit_twice, commit_fits}
 use Rattle.flt_store.proofs.Causes.{writes_handed}
 use Rattle.flt_store.proofs.Mending.{Mends, mended_within, mended_writes, mended_started}

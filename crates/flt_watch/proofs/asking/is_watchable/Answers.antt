@@ -1,8 +1,8 @@
 use Rattle.std.proofs.Common.{◌≡◌, List, length, get_or, ap, arith, ◌∙◌}
 use Rattle.std.specs.Prelude.{Vec}
 use Rattle.std.specs.List.{list_all}
-use Rattle.flt_script.specs.declared.step.Part.{Part}
-use Rattle.flt_script.specs.Part.{part_of}
+use Rattle.flt_step.specs.declared.step.Part.{Part}
+use Rattle.flt_step.specs.Part.{part_of}
 use Rattle.flt_watch.specs.Asked.{is_watched_part}
 use Rattle.flt_watch.proofs.Watchable.{one_watched}
 use Rattle.flt_watch.proofs.asking.is_watchable.Goals as goal

@@ -1,5 +1,5 @@
 use Rattle.std.proofs.Common.{map, ap, ◌∙◌}
-use Rattle.flt_life.specs.Room.{steps_of, told_in}
+use Rattle.flt_life_model.specs.Room.{steps_of, told_in}
 use Rattle.flt_watch.proofs.WorkRuns.{ran_lanes}
 use Rattle.flt_watch.proofs.block.run_block.Goals as goal
 

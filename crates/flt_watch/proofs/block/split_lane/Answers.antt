@@ -1,5 +1,5 @@
 use Rattle.std.proofs.Common.{arith, ap, refl, ◌∙◌}
-use Rattle.flt_life.specs.Parts.{calls_of}
+use Rattle.flt_life_model.specs.Parts.{calls_of}
 use Rattle.flt_turn.specs.Seats.{split_off, split_seat}
 use Rattle.flt_lane.proofs.Seating.{first_fits}
 use Rattle.flt_watch.proofs.Seats.{lane_for, seated}

@@ -3,8 +3,8 @@ use Rattle.std.specs.Prelude.{reverse}
 use Rattle.flt_dcm.specs.Unit.{IsAdmitted}
 use Rattle.flt_turn.specs.Seats.{ops_before}
 use Rattle.flt_shared.specs.Call.{whole}
-use Rattle.flt_life.specs.Actions.{response_size}
-use Rattle.flt_life.specs.Answers.{reply_size}
+use Rattle.flt_life_model.specs.Actions.{response_size}
+use Rattle.flt_life_model.specs.Answers.{reply_size}
 use Rattle.flt_lane.proofs.Stepping.{one_made, size_of_told}
 use Rattle.flt_watch.proofs.Running.{same_call}
 use Rattle.flt_watch.proofs.lane.make_call.Goals as goal

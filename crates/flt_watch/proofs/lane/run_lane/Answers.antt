@@ -1,5 +1,5 @@
 use Rattle.std.proofs.Common.{refl, rules}
-use Rattle.flt_life.specs.Answers.{told_with}
+use Rattle.flt_life_model.specs.Answers.{told_with}
 use Rattle.flt_lane.proofs.Answering.{keeps_with}
 use Rattle.flt_watch.proofs.Running.{begins, call_left, goes_on, has_run, possible_next}
 use Rattle.flt_watch.proofs.lane.run_lane.Goals as goal

@@ -4,13 +4,13 @@ use Rattle.flt_model.specs.Start.{Start, fresh}
 use Rattle.flt_model.specs.declared.call.Op.{Op}
 use Rattle.flt_turn.specs.declared.vault.Entry.{Entry}
 use Rattle.flt_turn.specs.Journal.{ops_of}
-use Rattle.flt_script.specs.Part.{parts_of}
-use Rattle.flt_life.specs.declared.life.Boot.TheVariants as boots
-use Rattle.flt_life.specs.Answers.{Told}
-use Rattle.flt_life.specs.Chain.{LifeView}
-use Rattle.flt_life.specs.Lives.{lanes_told, own_told}
-use Rattle.flt_life.specs.Played.{IsMade, StepMakes}
-use Rattle.flt_life.specs.Room.{told_in}
+use Rattle.flt_step.specs.Part.{parts_of}
+use Rattle.flt_life_model.specs.declared.life.Boot.TheVariants as boots
+use Rattle.flt_life_model.specs.Answers.{Told}
+use Rattle.flt_life_model.specs.Chain.{LifeView}
+use Rattle.flt_life_model.specs.Lives.{lanes_told, own_told}
+use Rattle.flt_life_model.specs.Played.{IsMade, StepMakes}
+use Rattle.flt_life_model.specs.Room.{told_in}
 use Rattle.flt_shared.specs.Call.{Seat, reply_after}
 use Rattle.flt_fork.proofs.Closing.{closed, fresh_of}
 use Rattle.flt_lane.proofs.WholeLife.{made_of}

@@ -1,4 +1,4 @@
-use Rattle.flt_life.specs.Answers.{told_with}
+use Rattle.flt_life_model.specs.Answers.{told_with}
 use Rattle.flt_lane.proofs.Answering.{keeps_with}
 use Rattle.flt_watch.proofs.living.run_one.Goals as goal
 

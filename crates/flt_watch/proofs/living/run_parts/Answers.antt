@@ -1,6 +1,6 @@
 use Rattle.std.proofs.Common.{map, subst, arith, ◌+◌}
-use Rattle.flt_script.specs.Part.{parts_of}
-use Rattle.flt_life.specs.Room.{told_in}
+use Rattle.flt_step.specs.Part.{parts_of}
+use Rattle.flt_life_model.specs.Room.{told_in}
 use Rattle.flt_lane.proofs.Running.{take_past}
 use Rattle.flt_watch.specs.Block.{HaveRunParts}
 use Rattle.flt_watch.proofs.PartsSoFar.{calls_left, lanes_left, left_of, living_begins, living_more, numbers_left, own_left, own_next, part_for, told_left}

@@ -1,9 +1,9 @@
 use Rattle.std.proofs.Common.{List, subst, rules}
 use Rattle.std.specs.Io.KnownBytes.{Appends}
 use Rattle.flt_io.specs.Sink.{AppendsFront}
-use Rattle.flt_life.specs.declared.replies.LaneReplies.{LaneReplies}
+use Rattle.flt_life_model.specs.declared.replies.LaneReplies.{LaneReplies}
 use Rattle.flt_notify.specs.Table.{value_in}
-use Rattle.flt_script.specs.Part.{parts_of}
+use Rattle.flt_step.specs.Part.{parts_of}
 use Rattle.flt_report.specs.Life.{life_text}
 use Rattle.flt_report.proofs.Written.{front_first, writes_next}
 use Rattle.flt_watch.specs.Text.{values_text}

@@ -1,6 +1,6 @@
 use Rattle.std.proofs.Common.{⊎_elim, inl, inr, ◌∙◌}
 use Rattle.flt_notify.specs.Table.{kinds_in, values_in}
-use Rattle.flt_report.specs.Boot.{script_fault_line, unread_line}
+use Rattle.flt_script.specs.Fault.{script_fault_line, unread_line}
 use Rattle.flt_script.specs.Script.{content}
 use Rattle.flt_watch.specs.Text.{other_line}
 use Rattle.flt_filter.specs.Verdict.{writing_of}

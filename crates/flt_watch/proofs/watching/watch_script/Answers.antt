@@ -3,10 +3,10 @@ use Rattle.std.specs.Prelude.{Err}
 use Rattle.std.specs.Io.KnownBytes.{Appends}
 use Rattle.flt_io.specs.Sink.{AppendsFront}
 use Rattle.flt_config.specs.Durable.{initial_state}
-use Rattle.flt_script.specs.declared.step.Part.{Part}
-use Rattle.flt_script.specs.Part.{parts_of}
-use Rattle.flt_life.specs.declared.life.Boot.TheVariants.{Started}
-use Rattle.flt_life.specs.Parts.{widths}
+use Rattle.flt_step.specs.declared.step.Part.{Part}
+use Rattle.flt_step.specs.Part.{parts_of}
+use Rattle.flt_life_model.specs.declared.life.Boot.TheVariants.{Started}
+use Rattle.flt_life_model.specs.Parts.{widths}
 use Rattle.flt_notify.specs.Table.{value_in}
 use Rattle.flt_watch.specs.Block.{IsPartFor}
 use Rattle.flt_watch.specs.Text.{watch_text}

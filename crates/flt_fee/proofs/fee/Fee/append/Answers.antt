@@ -3,8 +3,8 @@ use Rattle.std.specs.Prelude.{◌==◌, ◌&&◌, if◌then◌else◌}
 use Rattle.std.proofs.lemmas.List.{with_items_is}
 use Rattle.flt_flash.specs.Content.{Content}
 use Rattle.flt_flash.specs.Blocks.{byte_pages}
-use Rattle.flt_sector.specs.Blocks.{block_value}
-use Rattle.flt_sector.proofs.Items.{is_among}
+use Rattle.flt_sector_model.specs.Blocks.{block_value}
+use Rattle.flt_sector_model.proofs.Items.{is_among}
 use Rattle.flt_pages.specs.LogHolds.{asked_of, given, StandsAt}
 use Rattle.flt_fee.proofs.Standing.{Appending, mounted_stands, stale_mounted, stands_mounted, current_stays, done_standing}
 use Rattle.flt_fee.proofs.Appended.{blank_at_end, left_sound, failed_changes, failed_calls, done_calls, done_changes}

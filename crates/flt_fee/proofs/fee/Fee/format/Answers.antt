@@ -4,7 +4,7 @@ use Rattle.flt_flash.specs.declared.blocks.BlockFault.TheVariants.{Flash}
 use Rattle.flt_fee.proofs.Standing.{stale_mounted}
 use Rattle.flt_fee.proofs.Formatting.{fresh_mounted, nothing_held, nothing_wrong, nothing_changes, nothing_spent, formatting_calls}
 use Rattle.flt_flash.specs.Image.{sector_at}
-use Rattle.flt_sector.specs.Blocks.{block_value}
+use Rattle.flt_sector_model.specs.Blocks.{block_value}
 use Rattle.flt_pages.specs.declared.place.RecordPlace.{RecordPlace}
 use Rattle.flt_pages.specs.RecordPlace.{TellsPlaces}
 use Rattle.flt_pages.proofs.Telling.{tells_nothing}

@@ -2,7 +2,7 @@ use Rattle.std.proofs.Common.{◌≡◌, ℕ, true, List, length, Option, Some, 
 use Rattle.std.proofs.lemmas.List.{with_items_is}
 use Rattle.flt_flash.specs.Image.{sector_at}
 use Rattle.flt_flash.proofs.CallsInARow.{calls_after}
-use Rattle.flt_sector.specs.Blocks.{current, block_value}
+use Rattle.flt_sector_model.specs.Blocks.{current, block_value}
 use Rattle.flt_pages.specs.declared.place.RecordPlace.{RecordPlace}
 use Rattle.flt_pages.specs.RecordPlace.{TellsPlaces}
 use Rattle.flt_pages.specs.Told.{current_of}

@@ -2,7 +2,7 @@ use Rattle.std.proofs.Common.{◌∙◌, ◌+◌, ◌-◌, length, List, Option,
 use Rattle.std.proofs.lemmas.List.{with_items_is}
 use Rattle.flt_flash.specs.Image.{sector_at}
 use Rattle.flt_pages.specs.declared.place.RecordPlace.{RecordPlace}
-use Rattle.flt_sector.specs.Blocks.{block_value}
+use Rattle.flt_sector_model.specs.Blocks.{block_value}
 use Rattle.flt_pages.specs.Live.{held_in}
 use Rattle.flt_pages.specs.RecordPlace.{TellsPlaces}
 use Rattle.flt_fee.proofs.Standing.{stale_mounted, stands_sound}

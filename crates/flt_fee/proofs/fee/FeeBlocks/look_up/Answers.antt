@@ -1,6 +1,6 @@
 use Rattle.std.proofs.Common.{arith}
 use Rattle.flt_flash.specs.Image.{sector_at}
-use Rattle.flt_sector.specs.Blocks.{block_value}
+use Rattle.flt_sector_model.specs.Blocks.{block_value}
 use Rattle.flt_fee.proofs.Placed.{valid_found}
 use Rattle.flt_fee.proofs.fee.FeeBlocks.look_up.Goals as goal
 

@@ -3,7 +3,7 @@ use Rattle.flt_flash.specs.Calls.{ReadsContent}
 use Rattle.flt_flash.specs.Content.{Content, size_of}
 use Rattle.flt_flash.specs.Image.{sector_at}
 use Rattle.flt_flash.specs.declared.blocks.Found.TheVariants.{Bytes}
-use Rattle.flt_sector.specs.Blocks.{block_value}
+use Rattle.flt_sector_model.specs.Blocks.{block_value}
 use Rattle.flt_fee.proofs.Placed.{valid_read, valid_size}
 use Rattle.flt_fee.proofs.fee.FeeBlocks.read.Goals as goal
 

@@ -1,7 +1,7 @@
 use Rattle.std.proofs.Common.{◌≡◌, ℕ, ◌<◌, length}
 use Rattle.std.specs.Prelude.{IsTrue}
-use Rattle.flt_generation.specs.Layout.{part_of, is_used}
-use Rattle.flt_generation.specs.Form.{block_bytes, part_length}
+use Rattle.flt_store_model.specs.Layout.{part_of, is_used}
+use Rattle.flt_store_model.specs.Form.{block_bytes, part_length}
 use Rattle.flt_image.specs.Blocks.{bytes_at}
 use Rattle.flt_image.proofs.blocks.StateBlocks.put_all.Given as goal
 

@@ -1,5 +1,5 @@
 use Rattle.std.proofs.Common.{◌*◌, ◌≤◌, length, ap, arith}
-use Rattle.flt_generation.specs.Layout.{numbers}
+use Rattle.flt_store_model.specs.Layout.{numbers}
 use Rattle.flt_lives.proofs.driver.EaDriver.open.Goals as goal
 
 enough : 10 * length numbers ≤ 1090

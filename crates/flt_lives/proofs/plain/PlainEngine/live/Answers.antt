@@ -2,25 +2,25 @@ use Rattle.std.proofs.Common.{[], ◌∙◌, ap, subst, arith}
 use Rattle.std.proofs.lemmas.List.{length-map}
 use Rattle.flt_flash.specs.declared.blocks.Blocks.{Ghosts}
 use Rattle.flt_config.specs.declared.config.Config.{Config}
-use Rattle.flt_generation.specs.Holding.{Generation}
+use Rattle.flt_store_model.specs.Holding.{Generation}
 use Rattle.flt_dcm.specs.Unit.{Stands, UnitView}
 use Rattle.flt_dcm.specs.Whole.{state_of}
 use Rattle.flt_store.specs.declared.store.Store.{Store}
 use Rattle.flt_store.specs.Store.{numbered, driver_of, IsRunning}
-use Rattle.flt_script.specs.Part.{parts_of}
-use Rattle.flt_life.specs.Actions.{action_of}
-use Rattle.flt_life.specs.Causes.{AreCaused}
-use Rattle.flt_life.specs.Chain.{KeepsApplications, LifeView, Leaves, start_from, told_of}
-use Rattle.flt_life.specs.declared.life.Boot.TheVariants.{Started}
-use Rattle.flt_life.specs.Moment.{moment_of}
-use Rattle.flt_life.specs.Parts.{own_steps}
-use Rattle.flt_life.specs.Played.{IsPlayed}
-use Rattle.flt_life.specs.Room.{told_in}
-use Rattle.flt_life.specs.SoFar.{IsCaused}
+use Rattle.flt_step.specs.Part.{parts_of}
+use Rattle.flt_life_model.specs.Actions.{action_of}
+use Rattle.flt_life_model.specs.Causes.{AreCaused}
+use Rattle.flt_life_model.specs.Chain.{KeepsApplications, LifeView, Leaves, start_from, told_of}
+use Rattle.flt_life_model.specs.declared.life.Boot.TheVariants.{Started}
+use Rattle.flt_life_model.specs.Moment.{moment_of}
+use Rattle.flt_life_model.specs.Parts.{own_steps}
+use Rattle.flt_life_model.specs.Played.{IsPlayed}
+use Rattle.flt_life_model.specs.Room.{told_in}
+use Rattle.flt_life_model.specs.SoFar.{IsCaused}
 use Rattle.flt_lives.specs.Living.{IsLiving, deeds_told}
-use Rattle.flt_life.proofs.Causing.{are_caused}
+use Rattle.flt_life_model.proofs.Causing.{are_caused}
 use Rattle.flt_lives.proofs.Deeds.{alone_got}
-use Rattle.flt_life.proofs.Keeping.{kept_first}
+use Rattle.flt_life_model.proofs.Keeping.{kept_first}
 use Rattle.flt_lives.proofs.Playing.{alone, played_by}
 use Rattle.flt_lives.proofs.Rooms.{alone_calls, arms_are, calls_most, possible_alone}
 use Rattle.flt_lives.proofs.plain.PlainEngine.live.Goals as goal

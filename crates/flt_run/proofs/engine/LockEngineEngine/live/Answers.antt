@@ -1,12 +1,12 @@
 use Rattle.std.proofs.Common.{◌≡◌, All, map, reverse, sym, ap, subst, ◌∙◌}
-use Rattle.flt_script.specs.Part.{parts_of}
+use Rattle.flt_step.specs.Part.{parts_of}
 use Rattle.flt_store.specs.Store.{driver_of, numbered}
-use Rattle.flt_life.specs.declared.life.Boot.TheVariants as boots
-use Rattle.flt_life.specs.Causes.{AreCaused}
-use Rattle.flt_life.specs.Chain.{KeepsApplications, LifeView, Leaves, start_from, told_of}
-use Rattle.flt_life.specs.Moment.{moment_of}
-use Rattle.flt_life.specs.Played.{IsLife, IsPlayed}
-use Rattle.flt_life.specs.Room.{told_in}
+use Rattle.flt_life_model.specs.declared.life.Boot.TheVariants as boots
+use Rattle.flt_life_model.specs.Causes.{AreCaused}
+use Rattle.flt_life_model.specs.Chain.{KeepsApplications, LifeView, Leaves, start_from, told_of}
+use Rattle.flt_life_model.specs.Moment.{moment_of}
+use Rattle.flt_life_model.specs.Played.{IsLife, IsPlayed}
+use Rattle.flt_life_model.specs.Room.{told_in}
 use Rattle.flt_shared.specs.Call.{Seat}
 use Rattle.flt_lane.specs.Room.{IsPartFor}
 use Rattle.flt_lane.specs.Runs.{QueueSeat}

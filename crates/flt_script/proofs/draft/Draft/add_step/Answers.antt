@@ -2,11 +2,11 @@ use Rattle.std.proofs.Common.{◌≡◌, List, [], ◌∷◌, ◌++◌, inl, sym
 use Rattle.std.specs.Prelude.{option_map}
 use Rattle.std.proofs.lemmas.List.{map-append}
 use Rattle.flt_script.specs.declared.block.OpenBlock.{OpenBlock}
-use Rattle.flt_script.specs.declared.step.Part.{Part}
-use Rattle.flt_script.specs.declared.step.Part.TheVariants.{One}
+use Rattle.flt_step.specs.declared.step.Part.{Part}
+use Rattle.flt_step.specs.declared.step.Part.TheVariants.{One}
 use Rattle.flt_script.specs.Next.{state, cause_of}
-use Rattle.flt_script.specs.Part.{part_of, parts_of}
-use Rattle.flt_script.specs.Step.{arm_count, drain_count}
+use Rattle.flt_step.specs.Part.{part_of, parts_of}
+use Rattle.flt_step.specs.Step.{arm_count, drain_count}
 use Rattle.flt_script.proofs.InMemory.{steps_of_lanes}
 use Rattle.flt_script.proofs.Misplaced.{put_alone, put_in_lane, refused_in_lane}
 use Rattle.flt_script.proofs.draft.Draft.add_step.Goals as goal

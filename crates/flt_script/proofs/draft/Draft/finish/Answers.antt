@@ -1,6 +1,6 @@
 use Rattle.std.proofs.Common.{◌∷◌, [], sym, ◌∙◌, arith}
 use Rattle.std.proofs.lemmas.List.{map-append}
-use Rattle.flt_script.specs.Part.{parts_of}
+use Rattle.flt_step.specs.Part.{parts_of}
 use Rattle.flt_script.proofs.Checked.{same_config}
 use Rattle.flt_script.proofs.InMemory.{Life}
 use Rattle.flt_script.proofs.draft.Draft.finish.Goals as goal

@@ -1,8 +1,8 @@
 use Rattle.std.proofs.Common.{arith}
 use Rattle.std.proofs.lemmas.List.{length-map}
 use Rattle.std.proofs.lemmas.List.Folds.{list_all-map}
-use Rattle.flt_script.specs.Part.{parts_of}
-use Rattle.flt_script.specs.Step.{are_parts_in, steps_of, arms_of, drains_of}
+use Rattle.flt_step.specs.Part.{parts_of}
+use Rattle.flt_step.specs.Step.{are_parts_in, steps_of, arms_of, drains_of}
 use Rattle.flt_script.proofs.InMemory.{Life, sum_of_lives, sum_of_marks}
 use Rattle.flt_script.proofs.script.Script.new.Goals as goal
 

@@ -1,5 +1,5 @@
 use Rattle.std.proofs.Common.{◌∙◌, ◌≤◌, ◌++◌, ℕ, List, length, length-take, take, refl, ap, arith}
-use Rattle.flt_generation.specs.Layout.{application_number}
+use Rattle.flt_store_model.specs.Layout.{application_number}
 use Rattle.flt_store.specs.Store.{driver_of}
 use Rattle.flt_store.proofs.Applying.{gets_nothing, gets_bytes, gets_short}
 use Rattle.flt_store.proofs.Running.{reads_run}

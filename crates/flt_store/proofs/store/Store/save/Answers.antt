@@ -1,15 +1,15 @@
 use Rattle.std.proofs.Common.{inl, inr, Err, ◌≡◌, ◌+◌, ◌*◌, ◌∙◌, ⊎_elim, length, subst, ap, refl, sym, arith}
 use Rattle.std.specs.Prelude.{IsTrue, IsFalse}
 use Rattle.flt_flash.specs.Calls.{CostsAtMost}
-use Rattle.flt_generation.specs.Form.{block_bytes}
-use Rattle.flt_generation.specs.Layout.{used_ids}
+use Rattle.flt_store_model.specs.Form.{block_bytes}
+use Rattle.flt_store_model.specs.Layout.{used_ids}
 use Rattle.flt_store.specs.declared.fault.SaveFault.TheVariants.{Flash}
 use Rattle.flt_store.specs.Cost.{Spends, pages_to_write}
 use Rattle.flt_store.specs.Known.{Knows}
 use Rattle.flt_store.proofs.Changed.{pages_of_later}
 use Rattle.flt_store.proofs.Costs.{switch_within}
 use Rattle.flt_store.proofs.Started.{numbered as number_of_started}
-use Rattle.flt_generation.specs.Holding.{Generation, last_number}
+use Rattle.flt_store_model.specs.Holding.{Generation, last_number}
 use Rattle.flt_store.specs.Store.{driver_of, commit_of, kept_of, is_settled, numbered, IsReady, IsRunning}
 use Rattle.flt_store.proofs.Started.{sound_started}
 use Rattle.flt_store.proofs.Running.{alive_after, served_on, undisturbed_until, held_is_chosen, ok_map, on_ok, err_taken, err_both, chosen_on, one_of_chosen, rises_from, unsettled_runs, told_by}

@@ -1,14 +1,14 @@
 use Rattle.std.proofs.Common.{◌≡◌, ◌+◌, ℕ, Some, Err, ◌∙◌, ap, sym, subst, arith}
 use Rattle.flt_nvm.specs.Driver.{driver_of as driver_beneath}
 use Rattle.flt_store.specs.declared.fault.SaveFault.TheVariants.{Flash, Spent, SequenceSpent}
-use Rattle.flt_generation.specs.Form.{block_bytes}
+use Rattle.flt_store_model.specs.Form.{block_bytes}
 use Rattle.flt_image.specs.Blocks.{bytes_at}
 use Rattle.flt_image.specs.declared.blocks.StateBlocks.{StateBlocks}
 use Rattle.flt_store.specs.Store.{driver_of, commit_of, kept_of, numbered}
 use Rattle.flt_store.proofs.Changed.{some_same, same_commit, keeps_from, stand_at_zero, pages_by}
 use Rattle.flt_store.proofs.Costs.{spends_less, spends_nothing}
-use Rattle.flt_generation.specs.Successor.{number_in}
-use Rattle.flt_generation.specs.declared.commit.Commit.{Commit}
+use Rattle.flt_store_model.specs.Successor.{number_in}
+use Rattle.flt_store_model.specs.declared.commit.Commit.{Commit}
 use Rattle.flt_store.specs.Started.{IsStarted}
 use Rattle.flt_store.specs.Writing.{AreCopiesOf}
 use Rattle.flt_store.proofs.Started.{sound_started}

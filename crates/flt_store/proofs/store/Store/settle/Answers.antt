@@ -4,7 +4,7 @@ use Rattle.flt_nvm.specs.Driver.{driver_of as driver_beneath}
 use Rattle.flt_store.specs.declared.fault.SaveFault.TheVariants.{Flash, Spent, SequenceSpent}
 use Rattle.flt_store.specs.Started.{IsStarted}
 use Rattle.flt_flash.proofs.CallsInARow.{more_calls}
-use Rattle.flt_generation.specs.Holding.{Generation}
+use Rattle.flt_store_model.specs.Holding.{Generation}
 use Rattle.flt_image.specs.Blocks.{bytes_at}
 use Rattle.flt_store.specs.Store.{driver_of, commit_of, kept_of, is_settled, numbered}
 use Rattle.flt_store.proofs.Changed.{same_commit}

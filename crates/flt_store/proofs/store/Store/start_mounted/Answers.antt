@@ -2,10 +2,10 @@ use Rattle.std.proofs.Common.{◌≡◌, inl, inr, Ok, Err, refl, sym, ◌∙◌
 use Rattle.flt_flash.proofs.CallsInARow.{more_calls}
 use Rattle.std.specs.Prelude.{◌↔◌, IsTrue}
 use Rattle.flt_flash.specs.Content.{Content}
-use Rattle.flt_generation.specs.Layout.{mark_number}
-use Rattle.flt_generation.specs.Form.{mark_of}
+use Rattle.flt_store_model.specs.Layout.{mark_number}
+use Rattle.flt_store_model.specs.Form.{mark_of}
 use Rattle.flt_nvm.specs.Driver.{driver_of as driver_beneath}
-use Rattle.flt_generation.specs.Holding.{Generation}
+use Rattle.flt_store_model.specs.Holding.{Generation}
 use Rattle.flt_restore.specs.Restored.{generation, IsJudged, IsMarkDue}
 use Rattle.flt_restore.proofs.Judged.{judged_of}
 use Rattle.flt_restore.proofs.Telling.{handed_on}

@@ -2,7 +2,7 @@ use Rattle.std.proofs.Common.{inl, inr, ◌∙◌, sym, ap}
 use Rattle.flt_flash.specs.Content.{bytes}
 use Rattle.flt_flash.specs.declared.blocks.BlockFault.TheVariants.{Flash, SequenceSpent}
 use Rattle.flt_nvm.specs.Driver.{driver_of}
-use Rattle.flt_generation.specs.Reading.{commit_in}
+use Rattle.flt_store_model.specs.Reading.{commit_in}
 use Rattle.flt_store.proofs.Causes.{writes_handed, writes_done}
 use Rattle.flt_store.proofs.Marks.{TriesMark, keeps_marked, applications_marked}
 use Rattle.flt_store.proofs.Started.{sound_still}

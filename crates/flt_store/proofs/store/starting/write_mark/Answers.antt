@@ -5,10 +5,10 @@ use Rattle.flt_flash.specs.declared.blocks.BlockFault.{BlockFault}
 use Rattle.flt_flash.specs.declared.blocks.BlockFault.TheVariants.{Flash}
 use Rattle.flt_nvm.specs.Driver.{driver_of}
 use Rattle.flt_nvm.specs.Leaves.{GivesInAJob}
-use Rattle.flt_generation.specs.declared.mark.Mark.{Mark}
-use Rattle.flt_generation.specs.Layout.{mark_number}
-use Rattle.flt_generation.specs.Form.{mark_of, mark_bytes}
-use Rattle.flt_generation.proofs.Marks.{mark_size}
+use Rattle.flt_store_model.specs.declared.mark.Mark.{Mark}
+use Rattle.flt_store_model.specs.Layout.{mark_number}
+use Rattle.flt_store_model.specs.Form.{mark_of, mark_bytes}
+use Rattle.flt_store_model.proofs.Marks.{mark_size}
 use Rattle.flt_restore.specs.Restored.{IsMarkDue}
 use Rattle.flt_store.proofs.TableUse.{mark_index, mark_fits, mark_alone}
 use Rattle.flt_store.proofs.Causes.{no_write, one_write}

@@ -1,6 +1,6 @@
 use Rattle.std.proofs.Common.{◌≡◌, ◌+◌, ◌∙◌, List, ℕ, arith, ap, drop, get_or, map, sym}
 use Rattle.std.specs.String.{string_bytes}
-use Rattle.flt_life.specs.Room.{told_in}
+use Rattle.flt_life_model.specs.Room.{told_in}
 use Rattle.flt_trace.specs.Answered.{with_lane, with_lanes}
 use Rattle.flt_trace.proofs.Put.{next_lane}
 use Rattle.flt_trace.proofs.answers.answering.answer_texts.Goals as goal

@@ -1,6 +1,6 @@
 use Rattle.std.proofs.Common.{◌≡◌, drop, map}
 use Rattle.std.specs.String.{string_bytes}
-use Rattle.flt_life.specs.Room.{told_in}
+use Rattle.flt_life_model.specs.Room.{told_in}
 use Rattle.flt_trace.specs.Answered.{answer_texts, with_lanes}
 use Rattle.flt_trace.proofs.answers.answering.answer_texts.Given as goal
 

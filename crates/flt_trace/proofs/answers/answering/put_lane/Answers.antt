@@ -1,7 +1,7 @@
 use Rattle.std.proofs.Common.{◌≡◌, ◌+◌, ◌<◌, ◌∙◌, List, ℕ, arith, ap, drop, get_or, length, map, subst, sym}
 use Rattle.std.specs.String.{string_bytes}
-use Rattle.flt_life.specs.Answers.{reply_in, with_reply}
-use Rattle.flt_life.specs.Room.{told_in}
+use Rattle.flt_life_model.specs.Answers.{reply_in, with_reply}
+use Rattle.flt_life_model.specs.Room.{told_in}
 use Rattle.flt_trace.specs.Answered.{with_lane, with_told}
 use Rattle.flt_trace.proofs.Put.{next_told}
 use Rattle.flt_trace.proofs.answers.answering.put_lane.Goals as goal

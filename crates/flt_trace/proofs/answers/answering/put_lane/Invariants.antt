@@ -1,6 +1,6 @@
 use Rattle.std.proofs.Common.{◌≡◌, drop, map}
 use Rattle.std.specs.String.{string_bytes}
-use Rattle.flt_life.specs.Room.{told_in}
+use Rattle.flt_life_model.specs.Room.{told_in}
 use Rattle.flt_trace.specs.Answered.{with_lane}
 use Rattle.flt_trace.proofs.answers.answering.put_lane.Given as goal
 

@@ -2,7 +2,7 @@ use Rattle.std.proofs.Common.{◌≡◌, ◌∙◌, sym, ap, true, false, arith}
 use Rattle.std.specs.Prelude.{map}
 use Rattle.std.specs.String.{string_bytes}
 use Rattle.std.proofs.lemmas.List.{map-append}
-use Rattle.flt_generation.specs.Layout.{end_part, is_used}
+use Rattle.flt_store_model.specs.Layout.{end_part, is_used}
 use Rattle.flt_trace.proofs.Blocks.{all_texts, bytes_more, no_text_more, one_text_more, used_below}
 use Rattle.flt_trace.proofs.base.printing.base_texts.Goals as goal
 use Rattle.flt_trace.proofs.base.printing.base_texts.Goals.{then-is_used+in_ok-block_text+in_ok-push, else-is_used}

@@ -1,11 +1,11 @@
 use Rattle.std.proofs.Common.{◌≡◌, ◌∙◌, ◌-◌, ◌+◌, ◌<◌, ℕ, List, [], Ok, sym, ap, subst, arith, true, false, length, drop, Bor}
 use Rattle.std.proofs.lemmas.List.{length-map}
 use Rattle.flt_config.specs.declared.persist.Persist.{Persist}
-use Rattle.flt_generation.specs.Form.{block_bytes}
-use Rattle.flt_generation.specs.Holding.{or_damaged}
-use Rattle.flt_generation.specs.Layout.{is_used, part_of, parts}
-use Rattle.flt_generation.specs.Reading.{taken}
-use Rattle.flt_generation.proofs.ImageLaws.{sizes_of}
+use Rattle.flt_store_model.specs.Form.{block_bytes}
+use Rattle.flt_store_model.specs.Holding.{or_damaged}
+use Rattle.flt_store_model.specs.Layout.{is_used, part_of, parts}
+use Rattle.flt_store_model.specs.Reading.{taken}
+use Rattle.flt_store_model.proofs.ImageLaws.{sizes_of}
 use Rattle.flt_trace.specs.Trace.{seen}
 use Rattle.flt_trace.proofs.Strings.{seen_at}
 use Rattle.flt_trace.specs.Base.{IsBaseOf}

@@ -1,0 +1,3 @@
+pub mod UnitExamples
+pub mod WordExamples
+pub mod CostExamples

@@ -1,5 +1,0 @@
-use Rattle.flt_generation.proofs.ImageLaws as laws
-use Rattle.flt_generation.proofs.laws.blank_image_is_sound.Goals as goal
-
-pub returns : goal.returns
-returns c = laws.blank_is_sound

@@ -1,8 +1,0 @@
-use Rattle.flt_generation.proofs.ImageLaws as laws
-use Rattle.flt_generation.proofs.laws.copies_count.Goals as goal
-
-pub returns-clause-either : goal.returns-clause-either
-returns-clause-either c = laws.either_copy_counts
-
-pub returns-clause-alone : goal.returns-clause-alone
-returns-clause-alone c = laws.only_bytes_count

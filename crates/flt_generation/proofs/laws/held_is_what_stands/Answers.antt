@@ -1,8 +1,0 @@
-use Rattle.flt_generation.proofs.ImageLaws as laws
-use Rattle.flt_generation.proofs.laws.held_is_what_stands.Goals as goal
-
-pub returns-clause-held : goal.returns-clause-held
-returns-clause-held c = laws.held_stands
-
-pub returns-clause-spare : goal.returns-clause-spare
-returns-clause-spare c = laws.spare_stands

@@ -1,6 +1,0 @@
-use Rattle.flt_generation.proofs.ImageLaws.{held_stands, spare_stands}
-use Rattle.flt_life.proofs.Older.{never_lost}
-use Rattle.flt_life.proofs.laws.acknowledged_is_never_lost.Goals as goal
-
-pub returns : goal.returns
-returns c = never_lost held_stands spare_stands

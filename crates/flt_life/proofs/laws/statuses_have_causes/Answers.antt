@@ -1,5 +1,0 @@
-use Rattle.flt_life.proofs.Ending.{by_boot}
-use Rattle.flt_life.proofs.laws.statuses_have_causes.Goals as goal
-
-pub returns : goal.returns
-returns c = λ config boot next ended life holds. by_boot config boot next ended life life.boot holds

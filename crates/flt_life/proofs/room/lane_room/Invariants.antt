@@ -1,6 +1,0 @@
-use Rattle.std.proofs.Common.{◌≡◌, take}
-use Rattle.flt_life.specs.Room.{sizes_of}
-use Rattle.flt_life.proofs.room.lane_room.Given as goal
-
-abbrev pub invariant-loop-step : goal.invariant-loop-step
-invariant-loop-step l = l.bytes ≡ sizes_of (take l.step-index l.steps)

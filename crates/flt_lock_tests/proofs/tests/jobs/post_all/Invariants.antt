@@ -1,5 +1,0 @@
-use Rattle.std.proofs.Common.{◌≡◌}
-use Rattle.flt_lock_tests.proofs.tests.jobs.post_all.Given as goal
-
-abbrev pub invariant-loop-block : goal.invariant-loop-block
-invariant-loop-block g l = l.queue.blocks ≡ 40

@@ -1,7 +1,0 @@
-use Rattle.flt_lock_tests.proofs.tests.turns.+fn-run_lanes-join+arg3+run_lanes.Given as goal
-
-abbrev pub decreases-join+arg3 : goal.decreases-join+arg3
-decreases-join+arg3 g l = l.others
-
-abbrev pub decreases-run_lanes : goal.decreases-run_lanes
-decreases-run_lanes g l = l.lanes

@@ -1,6 +1,0 @@
-use Rattle.std.proofs.Common.{◌≡◌, ◌*◌, take}
-use Rattle.flt_script.specs.Bytes.{spaced}
-use Rattle.flt_report.proofs.digits.spell.Given as goal
-
-abbrev pub invariant-loop-index : goal.invariant-loop-index
-invariant-loop-index l = take (3 * l.index) l.text ≡ spaced (take l.index l.bytes)

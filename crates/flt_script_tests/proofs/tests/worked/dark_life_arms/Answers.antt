@@ -1,0 +1,5 @@
+use Rattle.std.proofs.Common.{refl}
+use Rattle.flt_script_tests.proofs.tests.worked.dark_life_arms.Goals as goal
+
+pub returns : goal.returns
+returns c = record { armed = λ arm. refl; drained = refl }

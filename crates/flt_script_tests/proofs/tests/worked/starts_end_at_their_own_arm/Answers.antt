@@ -1,0 +1,5 @@
+use Rattle.std.proofs.Common.{refl}
+use Rattle.flt_script_tests.proofs.tests.worked.starts_end_at_their_own_arm.Goals as goal
+
+pub returns : goal.returns
+returns c = λ arm. record { second = refl; third = refl }

@@ -1,0 +1,4 @@
+pub mod Part
+pub mod Puts
+pub mod Step
+pub mod Words

@@ -1,0 +1,16 @@
+pub mod Layout
+pub mod Form
+pub mod Fit
+pub mod Reading
+pub mod Excess
+pub mod Holding
+pub mod Faults
+pub mod Successor
+pub mod Laws
+pub mod Example
+pub mod Examples
+pub mod Whole
+pub mod Image
+pub mod WholeLaws
+pub mod WholeExample
+pub mod WholeExamples

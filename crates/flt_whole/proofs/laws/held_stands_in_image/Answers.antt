@@ -1,8 +1,0 @@
-use Rattle.flt_whole.proofs.WholeLaws as laws
-use Rattle.flt_whole.proofs.laws.held_stands_in_image.Goals as goal
-
-pub returns-clause-held : goal.returns-clause-held
-returns-clause-held c = laws.held_stands_in_image
-
-pub returns-clause-spare : goal.returns-clause-spare
-returns-clause-spare c = laws.spare_stands_in_image

@@ -1,5 +1,0 @@
-pub mod Whole
-pub mod Image
-pub mod Laws
-pub mod Example
-pub mod Examples
