@@ -4,6 +4,7 @@ ghost use Rattle.flt_flash.specs.State.{CanArm};
 
 mod ea;
 mod fee;
+mod file;
 mod job;
 mod worked;
 

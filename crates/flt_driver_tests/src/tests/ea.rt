@@ -15,10 +15,10 @@ use std::alloc::{AllocError, Global};
 use std::test::Fail;
 
 /// A driver of the blocks 8 and 9.
-fn two_blocks(alloc: Global, device: EepromMem) -> Result<Ea<EepromMem>, Fail>
-    requires { 20 ≤ (device_state device).pages }
-    ensures first { IfOk result (λ ea. Contains (state_of device_state ea).numbers 8) }
-    ensures second { IfOk result (λ ea. Contains (state_of device_state ea).numbers 9) }
+pub fn two_blocks<E: Eeprom + Drop>(alloc: Global, device: E) -> Result<Ea<E>, Fail>
+    requires { 20 ≤ (E.state device).pages }
+    ensures first { IfOk result (λ ea. Contains (state_of E.state ea).numbers 8) }
+    ensures second { IfOk result (λ ea. Contains (state_of E.state ea).numbers 9) }
 {
     match Ea::make(alloc, device, vec![in alloc; 8, 9]?) {
         Ok(ea) => Ok(ea),

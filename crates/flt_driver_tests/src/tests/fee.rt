@@ -16,11 +16,11 @@ use std::alloc::{AllocError, Global};
 use std::test::Fail;
 
 /// A driver of the blocks 9 and 8, in this order.
-fn two_blocks(alloc: Global, flash: FlashMem, used: u16) -> Result<Fee<FlashMem>, Fail>
+pub fn two_blocks<F: Bench + Drop>(alloc: Global, flash: F, used: u16) -> Result<Fee<F>, Fail>
     requires least { 4 ≤ used }
-    requires most { used ≤ (flash_state flash).pages }
-    ensures first { IfOk result (λ fee. Contains (state_of flash_state fee).numbers 8) }
-    ensures second { IfOk result (λ fee. Contains (state_of flash_state fee).numbers 9) }
+    requires most { used ≤ (F.state flash).pages }
+    ensures first { IfOk result (λ fee. Contains (state_of F.state fee).numbers 8) }
+    ensures second { IfOk result (λ fee. Contains (state_of F.state fee).numbers 9) }
 {
     match Fee::make(alloc, flash, used, vec![in alloc; 9, 8]?) {
         Ok(fee) => Ok(fee),

@@ -81,7 +81,7 @@ fn read_one<B: Blocks>(driver: &mut B, block: u16) -> Result<Held, BlockFault>
 }
 
 /// What it reads of both blocks.
-fn read_both<B: Blocks>(driver: &mut B) -> Result<(Held, Held), BlockFault>
+pub fn read_both<B: Blocks>(driver: &mut B) -> Result<(Held, Held), BlockFault>
     requires first { Contains (B.state driver.old).numbers 8 }
     requires second { Contains (B.state driver.old).numbers 9 }
     ensures { (B.state driver.new).numbers ≡ (B.state driver.old).numbers }
@@ -111,10 +111,10 @@ impl Changed {
 
 /// How far the job came: both blocks, and whether all changes were made.
 #[derive(Drop)]
-struct Progress {
+pub struct Progress {
     first: Changed,
     second: Changed,
-    is_whole: bool,
+    pub is_whole: bool,
 }
 
 impl Progress {
@@ -136,10 +136,16 @@ impl Progress {
             self.first.asked = asked;
         }
     }
+
+    /// Whether the blocks may be found so.
+    pub fn allows(&self, found: (Held, Held)) -> bool {
+        let (first, second) = found;
+        self.first.allows(first) && self.second.allows(second)
+    }
 }
 
 /// Makes the changes of the job until one fails.
-fn run_job<B: Blocks>(driver: &mut B) -> Progress
+pub fn run_job<B: Blocks>(driver: &mut B) -> Progress
     requires first { Contains (B.state driver.old).numbers 8 }
     requires second { Contains (B.state driver.old).numbers 9 }
     ensures { (B.state driver.new).numbers ≡ (B.state driver.old).numbers }
@@ -183,10 +189,7 @@ pub fn run_armed<B: Blocks>(
 {
     let progress = run_job(driver);
     restart(driver);
-    let (first, second) = read_again(driver)?;
-    assert!(rt;
-        progress.first.allows(first) && progress.second.allows(second),
-        "{arm:?}"
-    );
-    Ok((progress.is_whole, (first, second)))
+    let found = read_again(driver)?;
+    assert!(rt; progress.allows(found), "{arm:?}");
+    Ok((progress.is_whole, found))
 }

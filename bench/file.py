@@ -1,0 +1,44 @@
+#!/usr/bin/env python3
+"""bench/file.py [FOLDER [SECONDS]]: how many programs and erases a second a device in a file makes in this folder (that of temporary files
+if none is named), each with its sync, and without one.
+
+It makes the system's calls of `FileBytes` of flt_file, a write at its place and a sync of the data, since these take nearly all of the time:
+a program writes 32 bytes, an erase of a sector of 256 pages 8,192. The sync is that of the folder's disk; one in memory syncs nothing.
+"""
+import os
+import sys
+import tempfile
+import time
+
+PAGES = 256
+PAGE = 32
+
+
+def rate(file, size, does_sync, seconds):
+    """Returns how often a second so many bytes were written, each time at the next place of the file that has room for them."""
+    ring = 2 * PAGES * PAGE // size
+    bytes_written = b"\xff" * size
+    start = time.monotonic()
+    made = 0
+    while time.monotonic() - start < seconds:
+        os.pwrite(file, bytes_written, made % ring * size)
+        if does_sync:
+            os.fdatasync(file)
+        made += 1
+    return made / (time.monotonic() - start)
+
+
+def main(words):
+    folder = words[0] if words else tempfile.gettempdir()
+    seconds = float(words[1]) if len(words) > 1 else 2.0
+    with tempfile.NamedTemporaryFile(dir=folder) as image:
+        file = image.fileno()
+        os.pwrite(file, b"\xff" * (2 * PAGES * PAGE), 0)
+        os.fsync(file)
+        print(f"{'call':8} {'with sync':>12} {'without':>12}")
+        for call, size in (("program", PAGE), ("erase", PAGES * PAGE)):
+            print(f"{call:8} {rate(file, size, True, seconds):12.0f} {rate(file, size, False, seconds):12.0f}")
+
+
+if __name__ == "__main__":
+    main(sys.argv[1:])

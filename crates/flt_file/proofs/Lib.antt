@@ -1,0 +1,3 @@
+pub mod Splicing
+pub mod Paging
+pub mod Operating

@@ -1,0 +1,6 @@
+-- What the bytes of a file tell: nothing, since no contract can say which bytes the system keeps.
+use Rattle.std.specs.Prelude.{ℕ, List, Option, None}
+use Rattle.flt_file.specs.declared.file.FileBytes.{FileBytes}
+
+abbrev pub told : FileBytes → Option (List ℕ)
+told store = None

@@ -1,0 +1,11 @@
+pub mod Bytes
+pub mod MemBytes
+pub mod FileBytes
+pub mod Layout
+pub mod Stage
+pub mod Kept
+pub mod KeptOf
+pub mod Device
+pub mod FlashFile
+pub mod EepromFile
+pub mod Shape

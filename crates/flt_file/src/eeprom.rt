@@ -1,0 +1,102 @@
+//! An EEPROM that a file keeps.
+ghost use Rattle.std.specs.Prelude.{◌≡◌, ◌*◌, ◌<◌, length, IfOk, IfSome, OnOk, OnErr, IsTrue};
+ghost use Rattle.flt_flash.specs.State.{Operates};
+ghost use Rattle.flt_flash.specs.Tearing.{IsTorn};
+ghost use Rattle.flt_ea.specs.State.{written};
+ghost use Rattle.flt_file.specs.Layout.{units_in};
+ghost use Rattle.flt_file.specs.KeptOf.{kept_of};
+
+use crate::kept::Kept;
+use crate::{ByteStore, LoadFault};
+use flt_ea::Eeprom;
+use flt_flash::{Arm, FlashFailed};
+use std::alloc::Global;
+
+/// An EEPROM of units of 32 bytes, in the bytes of a store: unit behind unit. Nothing else is in them.
+///
+/// It has one life: it is off until its one power-up. When its store fails, the write answers `FlashFailed` and the device goes off for
+/// good; what the store then keeps of the unit is between what was and what was asked. To go on, open it again. An arm has no effect, and
+/// is not told.
+#[derive(Drop)]
+pub struct EepromFile<B: ByteStore> {
+    kept: Kept<B>,
+    units: u16,
+    ghost most: { units < 65536 },
+    ghost size: { length (kept_of B.told kept).bytes ≡ 32 * units },
+}
+
+impl<B: ByteStore + Drop> EepromFile<B> {
+    ghost use Rattle.flt_file.specs.EepromFile.{state_of, bytes_of, first_eeprom};
+
+    /// The EEPROM of so many units that the bytes of this store are. It is off, and its power may come once.
+    ///
+    /// # Errors
+    ///
+    /// `Memory` if memory ran out; `Store` if the store could not be read. The store is as it was, and is let go.
+    pub fn load(alloc: Global, store: B, units: u16) -> Result<EepromFile<B>, LoadFault>
+        requires { IfSome (B.told store) (λ held. length held ≡ 32 * units) }
+        ensures first { IfOk result (λ device. state_of B.told device ≡ first_eeprom units (bytes_of B.told device)) }
+        ensures bytes { IfOk result (λ device. IfSome (B.told store) (λ held. bytes_of B.told device ≡ held)) }
+    {
+        let kept = Kept::load(alloc, store, 32 * units as usize)?;
+        Ok(EepromFile { kept, units })
+    }
+
+    /// The store, as the operations left it.
+    pub fn into_store(self) -> B
+        ensures { IfSome (B.told result) (λ held. (state_of B.told self).image ≡ units_in (state_of B.told self).pages held) }
+    {
+        self.kept.into_store()
+    }
+}
+
+impl<B: ByteStore + Drop> Eeprom for EepromFile<B> {
+    ghost use Rattle.flt_file.specs.EepromFile.{state_of};
+    ghost use Rattle.flt_file.specs.Shape.{eeprom_shape};
+
+    ghost state = { state_of B.told };
+
+    ghost shape = { λ device. eeprom_shape device };
+
+    fn units(&self) -> u16 {
+        self.units
+    }
+
+    #[tactic(auto, using(crate::proofs::Operating::carried_operates))]
+    fn read_unit(&mut self, unit: u16, out: &mut [u8; 32]) -> Result<(), FlashFailed> {
+        self.kept.read(unit as usize, out)
+    }
+
+    #[tactic(auto, using(crate::proofs::Operating::carried_operates))]
+    fn write_unit(&mut self, unit: u16, bytes: &[u8; 32]) -> Result<(), FlashFailed>
+        requires { unit < (state_of B.told self.old).pages }
+        ensures written { OnOk result ((state_of B.told self.new).image ≡ written (state_of B.told self.old).image unit bytes.now) }
+        ensures torn { OnErr result (IsTorn (state_of B.told self.old).image (written (state_of B.told self.old).image unit bytes.now)
+            (state_of B.told self.new).image) }
+        ensures operation { Operates (state_of B.told self.old) (state_of B.told self.new) result }
+
+        // It is off after a failure.
+        ensures off { OnErr result (IsTrue (state_of B.told self.new).is_off) }
+    {
+        self.kept.write(unit as usize, bytes)
+    }
+
+    fn operations(&self) -> u64 {
+        self.kept.operations()
+    }
+
+    fn boots_left(&self) -> u16 {
+        self.kept.boots_left()
+    }
+
+    fn armed(&self) -> u8 {
+        0
+    }
+
+    fn arm(&mut self, _arm: Arm) {}
+
+    #[tactic(auto, using(crate::proofs::Operating::powered_up))]
+    fn power_up(&mut self) {
+        self.kept.power_up();
+    }
+}
