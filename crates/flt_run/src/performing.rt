@@ -1,26 +1,20 @@
 //! What a run comes to by its command, before it is told: the lives of its script over a device, or an answer without lives, and the
 //! device as they left it. It comes to nothing if memory runs out.
-ghost use Rattle.std.specs.Prelude.{◌≡◌, ◌≢◌, ◌≤◌, Option, None, Some, All, IfErr, IfOk, IfSome, IsTrue};
-ghost use Rattle.std.specs.Io.KnownBytes.{IsAtEnd};
-ghost use Rattle.flt_flash.specs.State.{FlashState};
+ghost use Rattle.std.specs.Prelude.{◌≡◌, ◌≢◌, ◌≤◌, Some, All, IfSome};
 ghost use Rattle.flt_flash.specs.Blocks.{device_of};
-ghost use Rattle.flt_config.specs.declared.config.Config.{Config};
 ghost use Rattle.flt_did.specs.Serves.{Serves};
 ghost use Rattle.flt_did.specs.Table.{dids_of};
 ghost use Rattle.flt_step.specs.Part.{parts_of};
 ghost use Rattle.flt_script.specs.Script.{content};
-ghost use Rattle.flt_script.specs.Fetched.{AreScript};
 ghost use Rattle.flt_store_model.specs.Laws.{IsGiven};
 ghost use Rattle.flt_restore.specs.declared.fault.StartFault.TheVariants.{Flash};
 ghost use Rattle.flt_life_model.specs.declared.life.Boot.TheVariants.{Refused};
 ghost use Rattle.flt_life_model.specs.Lives.{lists};
-ghost use Rattle.flt_life_model.specs.Moment.{Medium};
 ghost use Rattle.flt_lives.specs.Alone.{AreAlone};
 ghost use Rattle.flt_lives.specs.Devices.{LivesOn, ServesAll};
-ghost use Rattle.flt_run.specs.declared.command.Command.{Command as Commands};
-ghost use Rattle.flt_run.specs.Command.{IsInRange, plain_of, reads};
-ghost use Rattle.flt_run.specs.Ending.{ComesTo, EndingHasCause};
-ghost use Rattle.flt_run.specs.Scripted.{HasScript, ending_by};
+ghost use Rattle.flt_run.specs.Command.{IsInRange, plain_of};
+ghost use Rattle.flt_run.specs.Ending.{ComesTo};
+ghost use Rattle.flt_run.specs.Scripted.{IsScriptFor, ending_by};
 ghost use Rattle.flt_run.specs.Seen.{inside_of};
 
 use crate::command::Command;
@@ -106,51 +100,22 @@ fn live_in_lanes<R: Threads + Wait + Sync, G: SharedGate, D: Driver>(
     run_in_lanes::<R, G, D>(rt, gate, alloc, device, &script.config, dids, &script.lives)
 }
 
-/// The script that the source has. The error is what the run comes to without one: its ending, or nothing if memory ran out. It is not
-/// inlined: a script is large, and LLVM takes minutes for a function that moves it several times.
-#[inline(never)]
-fn read_script<S: Source>(
-    alloc: Global,
-    source: &mut S,
-    dids: &DidTable<DID_ROWS>,
-) -> Result<Script, Option<Ending>>
-    ensures read { IfOk result (λ script. IsAtEnd (S.left source.new) × AreScript (dids_of dids.now) (S.left source.old) (content script)) }
-    ensures served { IfOk result (λ script. Serves (dids_of dids.now) script.config.events.items) }
-    ensures without { (media : Config → Medium) (device : FlashState) (command : Option Commands) → IsTrue (reads command) → IfErr result (λ ending. IfSome ending
-        (EndingHasCause (dids_of dids.now) (inside_of S.left S.faults source.old source.new media device device) command None)) }
-{
-    match fetch(alloc, source, dids) {
-        Fetched::Script(script) => Ok(script),
-        Fetched::Refused(fault) => Err(Some(Ending::Refused(fault))),
-        Fetched::Failed => Err(Some(Ending::Unreadable)),
-        Fetched::Memory => Err(None),
-    }
-}
-
-/// The script of which a command makes lives: that of the source, or that of a load. The error is what the run comes to without one: its
-/// ending, or nothing if memory ran out.
+/// The script of a command: that of the source, or that of a load, which reads nothing.
 fn script_for<S: Source>(
     alloc: Global,
     command: Command,
     source: &mut S,
     dids: &DidTable<DID_ROWS>,
-) -> Result<Script, Option<Ending>>
+) -> Fetched
     requires { IsInRange (Some command) }
-    ensures script { (media : Config → Medium) (device after : FlashState) → IfOk result (λ script.
-        HasScript (dids_of dids.now) (inside_of S.left S.faults source.old source.new media device after) command (content script)) }
-    ensures served { IfOk result (λ script. Serves (dids_of dids.now) script.config.events.items) }
-    ensures without { (media : Config → Medium) (device : FlashState) → IfErr result (λ ending. IfSome ending
-        (EndingHasCause (dids_of dids.now) (inside_of S.left S.faults source.old source.new media device device) (Some command) None)) }
+    ensures { IsScriptFor (dids_of dids.now) (S.left source.old) (S.left source.new) (S.faults source.old) (S.faults source.new) command result }
 {
     match command {
-        Command::Run => read_script(alloc, source, dids),
-        Command::Check => match read_script(alloc, source, dids) {
-            Ok(script) => Err(Some(Ending::Accepted(script))),
-            Err(ending) => Err(ending),
-        },
+        Command::Run => fetch(alloc, source, dids),
+        Command::Check => fetch(alloc, source, dids),
         Command::Load { count, lanes } => match load(alloc, count, lanes) {
-            Ok(script) => Ok(script),
-            Err(_) => Err(None),
+            Ok(script) => Fetched::Script(script),
+            Err(_) => Fetched::Memory,
         },
     }
 }
@@ -203,14 +168,19 @@ pub(crate) fn perform_plain<S: Source, D: Driver>(
         return (Some(Ending::Usage), device);
     };
     match script_for(alloc, command, source, &dids) {
-        Ok(script) => {
+        Fetched::Script(script) => {
+            if let Command::Check = command {
+                return (Some(Ending::Accepted(script)), device);
+            }
             let Run { lives, device } = live_alone::<D>(alloc, device, &script, dids);
             (
                 made_of(script, lives).map(|made| ended(command, made)),
                 device,
             )
         }
-        Err(ending) => (ending, device),
+        Fetched::Refused(fault) => (Some(Ending::Refused(fault)), device),
+        Fetched::Failed => (Some(Ending::Unreadable), device),
+        Fetched::Memory => (None, device),
     }
 }
 
@@ -238,7 +208,7 @@ pub(crate) fn perform<R: Threads + Wait + Sync, G: SharedGate, S: Source, D: Dri
         return (Some(Ending::Usage), device);
     };
     match script_for(alloc, command, source, &dids) {
-        Ok(script) => {
+        Fetched::Script(script) => {
             let Run { lives, device } = live_in_lanes::<R, G, D>(
                 rt, gate, alloc, device, &script, dids,
             );
@@ -247,6 +217,8 @@ pub(crate) fn perform<R: Threads + Wait + Sync, G: SharedGate, S: Source, D: Dri
                 device,
             )
         }
-        Err(ending) => (ending, device),
+        Fetched::Refused(fault) => (Some(Ending::Refused(fault)), device),
+        Fetched::Failed => (Some(Ending::Unreadable), device),
+        Fetched::Memory => (None, device),
     }
 }

@@ -20,6 +20,7 @@ mod kinds;
 mod restored;
 mod rows;
 mod steps;
+mod stops;
 mod worked;
 
 use arrayvec::ArrayVec;
@@ -27,9 +28,9 @@ use flt_code::{Word, get_word, put_word, seal, unseal};
 use flt_config::{
     Config, EntryState, EventCfg, EventState, Frame, Persist, ValidConfig, check, fits, initial,
 };
-use flt_ea::{Ea, EepromMem};
+use flt_ea::{Ea, Eeprom, EepromMem};
 use flt_fee::Fee;
-use flt_flash::{Arm, BLANK_PAGE, Blocks, Flash, FlashFailed, FlashMem, Pattern};
+use flt_flash::{Arm, BLANK_PAGE, Bench, Blocks, Flash, FlashFailed, FlashMem, Pattern};
 use flt_image::{block_table, fee_numbers, laws};
 use flt_nvm::{Got, Nvm};
 use flt_store::{Mark, Place, PutFault, SaveFault, StartFault, Store};
@@ -119,11 +120,11 @@ fn failed() -> Persist {
 }
 
 /// Blocks by identifier over a flash whose sectors have the configuration's pages.
-fn blocks_over(
+fn blocks_over<F: Bench + Drop>(
     alloc: Global,
-    flash: FlashMem,
+    flash: F,
     config: &ValidConfig,
-) -> Result<Nvm<Fee<FlashMem>>, Fail>
+) -> Result<Nvm<Fee<F>>, Fail>
     ensures numbers { IfOk result (λ nvm. (driver_beneath nvm).numbers ≡ numbers) }
     ensures table { IfOk result (λ nvm. table_of nvm ≡ block_table) }
     ensures room { IfOk result (λ nvm. HasRoom config.now (driver_beneath nvm).room) }
@@ -141,11 +142,11 @@ fn blocks_over(
 }
 
 /// A store over such a flash.
-fn store_over(
+fn store_over<F: Bench + Drop>(
     alloc: Global,
-    flash: FlashMem,
+    flash: F,
     config: &ValidConfig,
-) -> Result<Store<Fee<FlashMem>>, Fail>
+) -> Result<Store<Fee<F>>, Fail>
     ensures { IfOk result (λ store. IsRoomy config.now store) }
 {
     Ok(Store::make(blocks_over(alloc, flash, config)?))
@@ -159,11 +160,13 @@ fn blank_store(alloc: Global, config: &ValidConfig) -> Result<Store<Fee<FlashMem
     store_over(alloc, flash, config)
 }
 
-/// A driver of the blocks of an image over a blank EEPROM whose power may come back so often.
-fn units_driver(alloc: Global, boots: u16) -> Result<Ea<EepromMem>, Fail>
-    ensures { IfOk result (λ driver. ((state_of device_state driver).numbers ≡ numbers) × ((state_of device_state driver).room ≡ None)) }
+/// A driver of the blocks of an image over an EEPROM.
+fn units_over<E: Eeprom + Drop>(alloc: Global, device: E) -> Result<Ea<E>, Fail>
+    ensures { IfOk result (λ driver. ((state_of E.state driver).numbers ≡ numbers) × ((state_of E.state driver).room ≡ None)) }
 {
-    let device = EepromMem::blank(alloc, UNITS, boots)?;
+    if device.units() < UNITS {
+        return Err(Fail::from("the EEPROM is too small"));
+    }
     laws::numbers_are_distinct();
     match Ea::make(alloc, device, fee_numbers(alloc)?) {
         Ok(ea) => Ok(ea),
@@ -171,13 +174,28 @@ fn units_driver(alloc: Global, boots: u16) -> Result<Ea<EepromMem>, Fail>
     }
 }
 
+/// A driver over a blank EEPROM whose power may come back so often.
+fn units_driver(alloc: Global, boots: u16) -> Result<Ea<EepromMem>, Fail>
+    ensures { IfOk result (λ driver. ((state_of device_state driver).numbers ≡ numbers) × ((state_of device_state driver).room ≡ None)) }
+{
+    units_over(alloc, EepromMem::blank(alloc, UNITS, boots)?)
+}
+
+/// A store over such a driver.
+fn store_of_units<E: Eeprom + Drop>(alloc: Global, driver: Ea<E>) -> Result<Store<Ea<E>>, Fail>
+    requires numbers { (state_of E.state driver).numbers ≡ numbers }
+    requires room { (state_of E.state driver).room ≡ None }
+    ensures { (c : Config) → IfOk result (λ store. IsRoomy c store) }
+{
+    laws::numbers_serve_table();
+    Ok(Store::make(Nvm::make(driver, block_table(alloc)?)))
+}
+
 /// A store over a blank EEPROM whose power may come back twice.
 fn units_store(alloc: Global) -> Result<Store<Ea<EepromMem>>, Fail>
     ensures { (c : Config) → IfOk result (λ store. IsRoomy c store) }
 {
-    let driver = units_driver(alloc, 2)?;
-    laws::numbers_serve_table();
-    Ok(Store::make(Nvm::make(driver, block_table(alloc)?)))
+    store_of_units(alloc, units_driver(alloc, 2)?)
 }
 
 /// Starts up: the number of the generation and its state.

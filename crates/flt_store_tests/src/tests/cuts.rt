@@ -9,7 +9,7 @@ use super::*;
 
 /// A call of the job.
 #[derive(Clone, Copy)]
-enum Call {
+pub(super) enum Call {
     Start,
     // Saves the state of an event of this status.
     Save(u8),
@@ -18,7 +18,7 @@ enum Call {
 }
 
 /// The job behind its start-up: a save, 14 puts, of which the last switches the sectors, a save, and a start-up.
-static JOB: [Call; 17] = [
+pub(super) static JOB: [Call; 17] = [
     Call::Save(FAILED),
     Call::Put(1),
     Call::Put(2),
@@ -40,7 +40,7 @@ static JOB: [Call; 17] = [
 
 /// The job on an image of version 1 that holds generation 1, behind its start-up: a save, 14 puts, of which the tenth switches the sectors, a
 /// save, and a start-up.
-static OLD_JOB: [Call; 17] = [
+pub(super) static OLD_JOB: [Call; 17] = [
     Call::Save(PASSED),
     Call::Put(1),
     Call::Put(2),
@@ -62,18 +62,18 @@ static OLD_JOB: [Call; 17] = [
 
 /// How many programs and erases that makes: 3 of the mark, 10 of each save, whose summary and entry stay, 3 of each put, and 31 of the
 /// switch.
-const OLD_OPERATIONS: u32 = 96;
+pub(super) const OLD_OPERATIONS: u32 = 96;
 
 /// How many programs and erases the job makes: 3 of the first mount, 3 of the mark, 18 of the first save, 10 of the second, whose
 /// summary and entry stay, 3 of each put, and 27 of the switch.
-const OPERATIONS: u32 = 103;
+pub(super) const OPERATIONS: u32 = 103;
 
 /// How many writes it makes to an EEPROM, where no sector is begun and none switched.
-const WRITES: u32 = 73;
+pub(super) const WRITES: u32 = 73;
 
 /// What the image says: the generation's number, the status of its event, and the byte of block 0 where that was put.
 #[derive(Clone, Copy, Debug, PartialEq)]
-struct Told {
+pub(super) struct Told {
     number: u32,
     status: u8,
     byte: Option<u8>,
@@ -81,7 +81,7 @@ struct Told {
 
 impl Told {
     /// What a blank flash says.
-    fn blank() -> Told {
+    pub(super) fn blank() -> Told {
         Told {
             number: 0,
             status: NOT_TESTED,
@@ -90,7 +90,7 @@ impl Told {
     }
 
     /// What an image of version 1 says, behind its first save.
-    fn old() -> Told {
+    pub(super) fn old() -> Told {
         Told {
             number: 1,
             status: FAILED,
@@ -169,7 +169,7 @@ fn make<B: Blocks + Drop>(
 
 /// Starts up on an image that says this, and makes the calls of a job until one fails: what stood before the last call, and what it asked
 /// for.
-fn run_job<B: Blocks + Drop>(
+pub(super) fn run_job<B: Blocks + Drop>(
     rt: &impl Abort,
     store: &mut Store<B>,
     config: &ValidConfig,
@@ -194,7 +194,7 @@ fn run_job<B: Blocks + Drop>(
 }
 
 /// What the store tells when it starts up.
-fn read_told<B: Blocks + Drop>(
+pub(super) fn read_told<B: Blocks + Drop>(
     rt: &impl Abort,
     store: &mut Store<B>,
     config: &ValidConfig,
