@@ -1,14 +1,23 @@
 #!/usr/bin/env python3
-"""processor_time.py INPUT PROGRAM WORDS..: the processor time, user and system, of the shortest of nine runs of the program on these
-words, in microseconds. Its standard input is the file INPUT, and what it prints is let go. Another exit status than 0 ends it.
+"""What runs of a program cost, and of a second one beside it.
 
-The two are added: many kernels know their sum exactly, and share it out by samples that miss a short run."""
+    processor_time.py INPUT PROGRAM[,OTHER] WORDS..
+
+Each program is run fifteen times on these words, with the file INPUT as its standard input; what it prints is let go. Two programs take
+turns, so that other work on the machine meets both. For each program a line is printed: the processor time (user and system) of the
+shortest run in microseconds, the fewest page faults, and the least peak memory in KB. Another exit status than 0 ends it.
+
+User and system time are added: many kernels know their sum exactly, and share it out by samples that miss a short run."""
+
 import os
 import sys
+from typing import List, Tuple
 
-source, command = sys.argv[1], sys.argv[2:]
-best = None
-for _ in range(9):
+RUNS = 15
+
+
+def cost(source: str, command: List[str]) -> Tuple[int, int, int]:
+    """Returns the microseconds, the page faults and the peak memory in KB of one run."""
     child = os.fork()
     if child == 0:
         os.dup2(os.open(source, os.O_RDONLY), 0)
@@ -17,6 +26,18 @@ for _ in range(9):
     _, status, used = os.wait4(child, 0)
     if status != 0:
         sys.exit(f"{' '.join(command)} < {source}: wait status {status}")
-    took = used.ru_utime + used.ru_stime
-    best = took if best is None else min(best, took)
-print(round(best * 1_000_000))
+    return round((used.ru_utime + used.ru_stime) * 1_000_000), used.ru_minflt + used.ru_majflt, used.ru_maxrss
+
+
+def main() -> None:
+    """Runs the programs in turn, and prints a line for each."""
+    if len(sys.argv) < 3:
+        sys.exit(__doc__)
+    source, programs, words = sys.argv[1], sys.argv[2].split(","), sys.argv[3:]
+    runs = [[cost(source, [program, *words]) for program in programs] for _ in range(RUNS)]
+    for its in zip(*runs):
+        print(*(min(it) for it in zip(*its)))
+
+
+if __name__ == "__main__":
+    main()

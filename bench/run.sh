@@ -1,36 +1,54 @@
 #!/bin/sh
-# bench/run.sh [EVENTS]: what runs of the five scripts cost, over so many events (64): 65,536 steps, requests and steps of the queue of
-# write jobs, 200 lives (over 16 events, or over so many where that is told), and 1 MiB of comments; and a load of 60,000 reports in one
-# lane and in four. For each the processor time (user and system, the best of nine), the same by step, the peak memory, and
-# instructions where valgrind is there, which are the same each time.
+# bench/run.sh [EVENTS [OTHER]]: what runs of the five scripts cost, over so many events (64): 65,536 steps, requests and steps of the queue
+# of write jobs, 200 lives (over 16 events, or over so many where that is told), and 1 MiB of comments; an empty script; and a load of
+# 60,000 reports in one lane and in four. For each the processor time (user and system, the best of fifteen), the same by step, page faults, the
+# peak memory, and instructions where valgrind is there. Page faults and instructions are the same each time. OTHER is a second program
+# that takes the same words, such as an earlier build: it is run in turn with the first, and a second line has its figures, and a third the
+# first program's as shares of them.
 set -eu
 cd "$(dirname "$0")/.."
 events=${1:-64}
+other=${2:-}
 ./faultmem check </dev/null >/dev/null
 program=crates/faultmem/out/faultmem
 scripts=$(mktemp -d)
 trap 'rm -rf "$scripts"' EXIT
 
-printf '%-12s %8s %12s %12s %10s %14s\n' run steps microseconds nanoseconds KB instructions
-# A run of the program on the words behind the first three, of so many steps, with this standard input.
+# The instructions of a run of program $1 on the words behind it, with this standard input; - if they are not counted.
+instructions() {
+    command -v valgrind >/dev/null 2>&1 || { echo -; return; }
+    valgrind --tool=callgrind --callgrind-out-file=/dev/null "$@" 2>&1 >/dev/null | sed -n 's/.*Collected : \([0-9]*\).*/\1/p'
+}
+
+row() {
+    printf '%-12s %9s %12s %12s %12s %10s %14s\n' "$@"
+}
+
+# Runs of the program on the words behind the first three, of so many steps, with this standard input.
 measure() {
     name=$1
     steps=$2
     input=$3
     shift 3
-    took=$(python3 bench/processor_time.py "$input" "$program" "$@")
-    peak=-
-    if command -v /usr/bin/time >/dev/null 2>&1; then
-        peak=$(/usr/bin/time -f %M "$program" "$@" <"$input" 2>&1 >/dev/null)
-    fi
-    count=-
-    if command -v valgrind >/dev/null 2>&1; then
-        count=$(valgrind --tool=callgrind --callgrind-out-file=/dev/null "$program" "$@" <"$input" 2>&1 >/dev/null |
-            sed -n 's/.*Collected : \([0-9]*\).*/\1/p')
-    fi
-    printf '%-12s %8s %12s %12s %10s %14s\n' "$name" "$steps" "$took" $((took * 1000 / steps)) "$peak" "$count"
+    python3 bench/processor_time.py "$input" "$program${other:+,$other}" "$@" >"$scripts/costs"
+    for it in "$program" ${other:+"$other"}; do
+        read -r took faults peak
+        count=$(instructions "$it" "$@" <"$input")
+        row "$name" "$steps" "$took" $((took * 1000 / steps)) "$faults" "$peak" "$count"
+        echo "$took $faults $peak $count" >>"$scripts/told"
+        name="  other"
+    done <"$scripts/costs"
+    [ -z "$other" ] || awk '
+        function share(one, two) { return two > 0 ? sprintf("%.2f", one / two) : "-" }
+        NR == 1 { split($0, one) }
+        NR == 2 { printf "%-12s %9s %12s %12s %12s %10s %14s\n", "  share", "", share(one[1], $1), "", share(one[2], $2), share(one[3], $3), share(one[4], $4) }
+    ' "$scripts/told"
+    rm -f "$scripts/told"
 }
 
+row run steps microseconds nanoseconds faults KB instructions
+: >"$scripts/empty"
+measure empty 1 "$scripts/empty" run
 for kind in steps requests jobs; do
     sh "bench/make_$kind.sh" 65536 "$events" >"$scripts/$kind"
     measure "$kind" 65536 "$scripts/$kind" run

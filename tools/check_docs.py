@@ -1,21 +1,27 @@
 #!/usr/bin/env python3
 """Checks the pages of the repository, and ends with 1 where one is wrong.
 
-It looks at README.md, docs/, tools/ and crates/README.md, in whose tree each crate has a line. The table of docs/ARCHITECTURE.md has each place
+It looks at README.md, docs/, tools/, clients/ and crates/README.md, in whose tree each crate has a line. The table of docs/ARCHITECTURE.md has each place
 that names all kinds of steps of a script. Each name that a page says to stand in a crate, or in a file of its definitions, or that links to a
 file of code, stands there; each module of definitions is in the crate that is named beside it; each file that a page links or names by its path is there; each report that a page shows is what its script prints:
-of a script in crates/examples/data the report beside it has those lines, and a script in a page is run, where the program is built; and each
-picture that docs/PICTURES.md says to be made by a command is what the command prints, where flt_draw is built.
+of a script in crates/examples/data the report beside it has those lines, and a script in a page is run, where the program is built; each
+picture that docs/PICTURES.md says to be made by a command of clients/draw.py is what it prints, where the program that it runs is built; and the commands of a block
+`console`, which begin with `$ `, print what the page shows, where the programs that they name are built. The commands of a section (`## `) are
+run one behind the other, in one shell and in a folder of their own.
 """
 import glob
 import os
 import re
+import signal
+import socket
 import subprocess
 import sys
+import tempfile
 
 TOP = os.path.dirname(os.path.dirname(os.path.abspath(__file__)))
 PROGRAM = f"{TOP}/crates/faultmem/out/faultmem"
-DRAW = f"{TOP}/crates/flt_draw/out/flt_draw"
+DRAW = f"{TOP}/clients/draw.py"
+DRAWN = {"timeline": PROGRAM, "sectors": f"{TOP}/crates/flt_inspect/out/flt_inspect"}
 TREE = f"{TOP}/crates/README.md"
 PLACES = f"{TOP}/docs/ARCHITECTURE.md"
 # Kinds of steps that are written by several words, which keywords have.
@@ -24,12 +30,22 @@ NAMED = re.compile(
     r"`([A-Za-z0-9_:]+)`(?:, `([A-Za-z0-9_:]+)`)? of \[?`?(?:\.\./)?(?:crates/)?(flt_[a-z_]+)`?\]?(?:/specs/([A-Za-z]+)\.antt)?(?:, `specs/([A-Za-z]+)\.antt`)?"
 )
 LINK = re.compile(r"\]\(([^)#\s]+)(?:#[^)]*)?\)")
+SOURCE = re.compile(r"\b(?:src|srcset)=\"([^\"\s]+)\"")
 LINKED = re.compile(r"\[`([A-Za-z0-9_:.]+)`\]\(([^)#\s]+\.(?:rt|antt))\)")
 OF_LINK = re.compile(r"((?:`[A-Za-z0-9_:.]+`(?:, | and ))*`[A-Za-z0-9_:.]+`) of \[[^\]]*\]\(([^)#\s]+\.(?:rt|antt))\)")
 MODULE = re.compile(r"(?:`(flt_[a-z_]+)`, )?`specs/([A-Za-z]+)\.antt`(?: of `(flt_[a-z_]+)`)?(?: \(((?:`[A-Za-z0-9_:.]+`(?:, | and )?)+)\))?")
-PATH = re.compile(r"`((?:crates|docs|bench|tools)/[A-Za-z0-9_./-]*[A-Za-z0-9_])`")
-PICTURE = re.compile(r"`(docs/pictures/[a-z_0-9]+\.svg)` \| `flt_draw (timeline|sectors) < (crates/[a-z_0-9/]+\.script)`")
+PATH = re.compile(r"`((?:crates|docs|bench|tools|clients)/[A-Za-z0-9_./-]*[A-Za-z0-9_])`")
+PICTURE = re.compile(r"`(docs/pictures/[a-z_0-9]+\.svg)` \| `clients/draw.py (timeline|sectors) ([^`]+)`")
 SCRIPT = re.compile(r"crates/examples/data/([a-z_0-9]+)\.script")
+CONSOLE = re.compile(r"^```console\n(.*?)^```$", re.M | re.S)
+# Which words of a command need which program. What FAULTMEM names, if it is set, is taken to have them all.
+NEEDS = (
+    (re.compile(r"\./faultmem (?:try )?(?:inspect|trace|audit)\b|clients/(?:trace_of|due)\.py"), "flt_inspect"),
+    (re.compile(r"\./faultmem (?:try )?(?:run|ea|watch|check|load)\b|clients/(?:trace_of|due)\.py"), "faultmem"),
+    (re.compile(r"\./faultmem (?:try )?live\b|clients/(?:live|doip)\.py"), "faultmem_live"),
+)
+MARK = "--- command"
+SECONDS = 180
 
 
 def text_of(path):
@@ -100,7 +116,7 @@ def wrong_modules(text):
 
 
 def missing_files(page, text):
-    for link in LINK.findall(text):
+    for link in LINK.findall(text) + SOURCE.findall(text):
         if "://" not in link and not os.path.exists(os.path.join(os.path.dirname(page), link)):
             yield f"the link {link} leads nowhere"
     for path in PATH.findall(text):
@@ -132,7 +148,7 @@ def has_lines(lines, wanted):
 
 def wrong_reports(text):
     script, name = None, None
-    for block, is_fenced, before in blocks_of(text):
+    for block, is_fenced, before in blocks_of(CONSOLE.sub("", text)):
         if before.strip() and not is_fenced and re.search(r"^#", before, re.M):
             script, name = None, None
         named = SCRIPT.findall("\n".join([before] + block))
@@ -151,14 +167,92 @@ def wrong_reports(text):
                 yield f"{name}.script prints another report"
 
 
+def commands_of(section):
+    """The commands of a section, each with the lines that are shown behind it."""
+    found = []
+    for line in "".join(CONSOLE.findall(section)).split("\n")[:-1]:
+        if line.startswith("$ "):
+            found.append((line[2:], []))
+        elif found:
+            found[-1][1].append(line)
+    return found
+
+
+def wrapper_for(commands):
+    """The command in place of ./faultmem: with `try` where a program is built without its proofs alone; none where one is not built."""
+    if os.environ.get("FAULTMEM"):
+        return os.environ["FAULTMEM"]
+    crates = {crate for command, _ in commands for words, crate in NEEDS if words.search(command)}
+    out = [(f"{TOP}/crates/{crate}/out/{crate}", f"{TOP}/crates/{crate}/out/try") for crate in crates]
+    if all(os.access(proved, os.X_OK) for proved, _ in out):
+        return f"{TOP}/faultmem"
+    return f"{TOP}/faultmem try" if all(os.access(tried, os.X_OK) for _, tried in out) else None
+
+
+def free_port():
+    """A port that is free, as is the one behind it."""
+    while True:
+        with socket.create_server(("127.0.0.1", 0)) as one:
+            port = one.getsockname()[1]
+            try:
+                with socket.create_server(("127.0.0.1", port + 1)), socket.socket(socket.AF_INET, socket.SOCK_DGRAM) as udp:
+                    udp.bind(("127.0.0.1", port))
+                    return port
+            except (OSError, OverflowError):
+                continue
+
+
+def printed_by(commands, wrapper, port):
+    """What these commands print, each in a text of its own, run in a new folder that looks like the top of the repository."""
+    script = "".join(f"echo; echo '{MARK}'\n{command}\n" for command, _ in commands)
+    with tempfile.TemporaryDirectory() as folder:
+        for name in ("clients", "crates", "docs"):
+            os.symlink(f"{TOP}/{name}", f"{folder}/{name}")
+        with open(f"{folder}/faultmem", "w", encoding="utf-8") as shim:
+            shim.write(f'#!/bin/sh\nexec {wrapper} "$@"\n')
+        os.chmod(shim.name, 0o755)
+        environment = {**os.environ, "FAULTMEM": wrapper, "DOIP_PORT": str(port)}
+        with open(f"{folder}/told", "w", encoding="utf-8") as told, open(f"{folder}/printed", "w+", encoding="utf-8") as printed:
+            shell = subprocess.Popen(["sh", "-c", script], cwd=folder, env=environment, stdin=subprocess.DEVNULL, stdout=printed, stderr=told, start_new_session=True)
+            try:
+                shell.wait(SECONDS)
+            except subprocess.TimeoutExpired:
+                pass
+            finally:
+                # What the commands left running is of this session alone.
+                try:
+                    os.killpg(shell.pid, signal.SIGTERM)
+                except ProcessLookupError:
+                    pass
+                shell.wait()
+            printed.seek(0)
+            return printed.read().split(f"\n{MARK}\n")[1:]
+
+
+def wrong_commands(text):
+    """Commands of a page that print something else than the page shows."""
+    for section in re.split(r"^## ", text, flags=re.M):
+        commands = commands_of(section)
+        wrapper = wrapper_for(commands) if commands else None
+        if wrapper is None:
+            continue
+        port = free_port()
+        printed = printed_by(commands, wrapper, port)
+        for at, (command, shown) in enumerate(commands):
+            due = "".join(f"{line}\n" for line in shown)
+            given = printed[at] if at < len(printed) else "(nothing, since an earlier command did not end)"
+            given = given.replace(str(port + 1), "13401").replace(str(port), "13400")
+            if given.rstrip("\n") != due.rstrip("\n"):
+                yield f"'{command}' prints another text:\n{given}"
+
+
 def wrong_pictures(text):
-    if not os.access(DRAW, os.X_OK):
-        return
-    for picture, word, script in PICTURE.findall(text):
-        with open(f"{TOP}/{script}", "rb") as bytes_of:
-            ran = subprocess.run([DRAW, word], stdin=bytes_of, capture_output=True)
+    for picture, word, rest in PICTURE.findall(text):
+        if not os.access(DRAWN[word], os.X_OK):
+            continue
+        ran = subprocess.run([sys.executable, DRAW, word, "--program", DRAWN[word], *rest.split()], capture_output=True, cwd=TOP)
         if ran.stdout != text_of(f"{TOP}/{picture}").encode():
-            yield f"{script} is drawn as another picture than {picture}"
+            yield f"`clients/draw.py {word} {rest}` draws another picture than {picture}"
 
 
 def wrong_tree(page, text):
@@ -203,9 +297,9 @@ def wrong_places(page, text):
 
 def main():
     wrong = 0
-    for page in sorted([f"{TOP}/README.md", TREE, *glob.glob(f"{TOP}/docs/*.md"), *glob.glob(f"{TOP}/tools/*.md")]):
+    for page in sorted([f"{TOP}/README.md", TREE, *glob.glob(f"{TOP}/docs/*.md"), *glob.glob(f"{TOP}/tools/*.md"), *glob.glob(f"{TOP}/clients/*.md")]):
         text = text_of(page)
-        for what in [*wrong_names(text), *wrong_rows(text), *wrong_links(page, text), *wrong_modules(text), *missing_files(page, text), *wrong_reports(text), *wrong_pictures(text), *wrong_tree(page, text), *wrong_places(page, text)]:
+        for what in [*wrong_names(text), *wrong_rows(text), *wrong_links(page, text), *wrong_modules(text), *missing_files(page, text), *wrong_reports(text), *wrong_commands(text), *wrong_pictures(text), *wrong_tree(page, text), *wrong_places(page, text)]:
             print(f"{os.path.relpath(page, TOP)}: {what}")
             wrong += 1
     print(f"pages: {'each is right' if not wrong else f'{wrong} faults'}")

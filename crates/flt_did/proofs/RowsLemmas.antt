@@ -1,11 +1,13 @@
 -- The data identifiers of a table: with one more row, and found by their numbers.
-use Rattle.std.proofs.Common.{◌≡◌, nat_eq, List, [], ◌∷◌, ◌++◌, Some, Option, inl, inr, eqb-true}
+use Rattle.std.proofs.Common.{◌≡◌, ℕ, nat_eq, List, [], ◌∷◌, ◌++◌, Some, Option, inl, inr, eqb-true}
 use Rattle.std.proofs.lemmas.Bool.{cases_Bool}
 use Rattle.std.specs.List.{find}
 use Rattle.std.specs.Prelude.{option_map}
 use Rattle.flt_config.specs.declared.config.DidUse.{DidUse}
 use Rattle.std.proofs.lemmas.List.Elements.{filter_map-append}
 use Rattle.flt_did.specs.declared.row.Row.{Row}
+use Rattle.flt_did.proofs.KeyedLemmas.{seen_of_found}
+use Rattle.flt_did.specs.Keyed.{filled, has_key}
 use Rattle.flt_did.specs.Rows.{rows_dids, row_did, is_did}
 
 pub rows_dids-push : {F : _} {g : _} (rows : List (Option (Row F g))) (r : Row F g)
@@ -24,3 +26,8 @@ found_width (first ∷ dids) did e =
           rw own (λ i. Some (record { id = id_is i; width = width_is i }))
       | inr other ↦ rw other (found_width dids did (rw other at e))
     ]
+
+-- The data identifier of the row that its number finds.
+pub found_did : {F : _} {g : _} (rows : List (Option (Row F g))) (id : ℕ) (row : Option (Row F g))
+    → row ≡ find (has_key (λ r. r.id) id) (filled rows) → option_map row_did row ≡ find (is_did id) (rows_dids rows)
+found_did rows id row is = rw is (seen_of_found row_did (is_did id) rows)

@@ -1,3 +1,4 @@
+pub mod Keyed
 pub mod Rows
 pub mod Table
 pub mod Serves

@@ -4,12 +4,14 @@
 //! specified one. The programs use one table, which `program_table!` makes. Read `specs/Table` first.
 #![tactic(auto)]
 
+mod keyed;
 mod program;
 mod readers;
 mod row;
 mod signals;
 mod table;
 
+pub use keyed::{Keyed, find_row};
 pub use readers::{did_0101, did_0102, did_0103, did_0104, did_0105, did_0106, did_0107};
 pub use row::{Reader, Row};
 pub use signals::Signals;

@@ -5,6 +5,7 @@ ghost use Rattle.flt_model.specs.Frame.{did_value};
 ghost use Rattle.flt_did.specs.declared.signals.Signals.{Signals as SignalValues};
 
 use crate::Signals;
+use crate::keyed::Keyed;
 
 /// What a data identifier reads from the signals.
 pub type Reader = fn(&Signals) -> u64;
@@ -23,4 +24,12 @@ pub struct Row {
     ghost callable: { (s : Bor SignalValues) → Reader.pre read s },
     ghost value: { (s : Bor SignalValues) (r : ℕ) → Reader.post read s r → did_value id s.now.values ≡ Some r },
     ghost narrow: { (s : Bor SignalValues) (r : ℕ) → Reader.post read s r → r < 256 ^ width },
+}
+
+impl Keyed for Row {
+    ghost key_of = { λ row. row.id };
+
+    fn key(&self) -> u16 {
+        self.id
+    }
 }

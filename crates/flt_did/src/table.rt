@@ -8,6 +8,7 @@ ghost use Rattle.flt_did.specs.Rows.{rows_dids, row_did, is_did};
 ghost use Rattle.flt_did.specs.Serves.{HasAll, Serves};
 
 use crate::Signals;
+use crate::keyed::find_row;
 use crate::row::{Reader, Row};
 use arrayvec::ArrayVec;
 use flt_config::{DIDS, DidUse, EventCfg, FRAME, Frame};
@@ -76,11 +77,20 @@ impl<const ROWS: usize> DidTable<ROWS> {
         self.rows.push(Some(row));
     }
 
+    /// The row of a data identifier, if it was added.
+    #[tactic(auto, using(crate::proofs::RowsLemmas::found_did))]
+    fn row(&self, id: u16) -> Option<&Row>
+        ensures found { option_map row_did (option_copied result) ≡ find (is_did id) (dids_of self.now) }
+        ensures named { IfSome result (λ row. row.now.id ≡ id) }
+    {
+        find_row(&self.rows, id)
+    }
+
     /// The width of a data identifier in bytes, if it was added.
     pub fn width(&self, id: u16) -> Option<u8>
         ensures { result ≡ option_map (λ did. did.width) (find (is_did id) (dids_of self.now)) }
     {
-        match find_row(&self.rows, id) {
+        match self.row(id) {
             Some(row) => Some(row.width),
             None => None,
         }
@@ -127,40 +137,26 @@ impl<const ROWS: usize> DidTable<ROWS> {
     {
         let mut frame = ArrayVec::new();
         for did in dids.as_slice() {
-            put_value(&mut frame, &self.rows, *did, signals);
+            self.put_value(&mut frame, *did, signals);
         }
         frame
     }
-}
 
-/// Appends the value of a data identifier of the table at these signals, big-endian in its width.
-fn put_value(frame: &mut Frame, rows: &[Option<Row>], did: DidUse, signals: &Signals)
-    requires present { find (is_did did.id) (rows_dids rows.now) ≡ Some did }
-    requires room { length frame.old.items + did.width ≤ FRAME }
-    ensures bytes { frame.new.items ≡ frame.old.items ++ did_bytes signals.now.values did }
-    ensures length { length frame.new.items ≡ length frame.old.items + did.width }
-{
-    match find_row(rows, did.id) {
-        Some(row) => {
-            let bytes = (row.read)(signals).to_be_bytes();
-            frame
-                .try_extend_from_slice(&bytes[8 - row.width as usize..])
-                .unwrap();
-        }
-        None => unreachable!(),
-    }
-}
-
-fn find_row(rows: &[Option<Row>], id: u16) -> Option<&Row>
-    ensures found { option_map row_did (option_copied result) ≡ find (is_did id) (rows_dids rows.now) }
-    ensures named { IfSome result (λ row. row.now.id ≡ id) }
-{
-    for row in rows {
-        if let Some(row) = row {
-            if row.id == id {
-                return Some(row);
+    /// Appends the value of a data identifier of the table at these signals, big-endian in its width.
+    fn put_value(&self, frame: &mut Frame, did: DidUse, signals: &Signals)
+        requires present { find (is_did did.id) (dids_of self.now) ≡ Some did }
+        requires room { length frame.old.items + did.width ≤ FRAME }
+        ensures bytes { frame.new.items ≡ frame.old.items ++ did_bytes signals.now.values did }
+        ensures length { length frame.new.items ≡ length frame.old.items + did.width }
+    {
+        match self.row(did.id) {
+            Some(row) => {
+                let bytes = (row.read)(signals).to_be_bytes();
+                frame
+                    .try_extend_from_slice(&bytes[8 - row.width as usize..])
+                    .unwrap();
             }
+            None => unreachable!(),
         }
     }
-    None
 }

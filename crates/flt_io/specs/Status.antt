@@ -1,7 +1,7 @@
 -- The numbers of the exit statuses.
 use Rattle.std.specs.Prelude.{ℕ}
 use Rattle.flt_io.specs.declared.status.Status.{Status}
-use Rattle.flt_io.specs.declared.status.Status.TheVariants.{Done, Usage, Refused, ReadFault, WriteFault, Dark, Damaged, OutOfMemory, SequenceSpent, InputLarge, NoPages, NoJson, NoTrace, OtherAnswer}
+use Rattle.flt_io.specs.declared.status.Status.TheVariants.{Done, Usage, Refused, ReadFault, WriteFault, Dark, Damaged, OutOfMemory, SequenceSpent, InputLarge, NoPages, NoJson, NoTrace, OtherAnswer, ImageSize, ImageInUse, ImageUnopened}
 
 -- The number of each.
 abbrev pub number_of : Status → ℕ
@@ -19,3 +19,6 @@ number_of NoPages = 10
 number_of NoJson = 11
 number_of NoTrace = 12
 number_of OtherAnswer = 13
+number_of ImageSize = 14
+number_of ImageInUse = 15
+number_of ImageUnopened = 16

@@ -33,6 +33,12 @@ pub enum Status {
     NoTrace = 12,
     /// An answer of the trace is not the one that is due.
     OtherAnswer = 13,
+    /// The file of the image has another size than the configuration asks for.
+    ImageSize = 14,
+    /// Another process has the file of the image open.
+    ImageInUse = 15,
+    /// The file of the image could not be made or opened.
+    ImageUnopened = 16,
 }
 
 impl Status {

@@ -5,6 +5,7 @@ ghost use Rattle.flt_notify.specs.declared.change.Change.{Change as ChangeView};
 ghost use Rattle.flt_notify.specs.Value.{next_value, IsInRange};
 
 use crate::change::Change;
+use flt_did::Keyed;
 
 /// What a subscriber makes of its value, from 0 to 2^32 - 1, and a change.
 pub type Subscriber = fn(u64, &Change) -> u64;
@@ -18,4 +19,12 @@ pub(crate) struct Row {
     ghost callable: { (v : ℕ) (c : Bor ChangeView) → v < 2 ^ 32 → IsInRange c.now → Subscriber.pre call v c },
     ghost value: { (v : ℕ) (c : Bor ChangeView) (r : ℕ) → v < 2 ^ 32 → IsInRange c.now
         → Subscriber.post call v c r → r ≡ next_value kind v c.now },
+}
+
+impl Keyed for Row {
+    ghost key_of = { λ row. row.kind };
+
+    fn key(&self) -> u16 {
+        u16::from(self.kind)
+    }
 }

@@ -9,28 +9,13 @@ use crate::change::Change;
 use crate::kinds::next;
 use crate::row::{Row, Subscriber};
 use arrayvec::ArrayVec;
+use flt_did::find_row;
 
 /// The functions of at most `ROWS` subscribers, each of another kind. They are only read.
 #[derive(Drop)]
 pub struct Subscribers<const ROWS: usize> {
     rows: ArrayVec<Option<Row>, ROWS>,
     ghost filled: { length (rows_kinds rows.items) ≡ length rows.items },
-}
-
-/// The row of a kind, where there is one.
-fn find_row(rows: &[Option<Row>], kind: u8) -> Option<&Row>
-    ensures found { option_map row_kind (option_copied result) ≡ find (is_kind kind) (rows_kinds rows.now) }
-    ensures named { IfSome result (λ row. row.now.kind ≡ kind) }
-    ensures range { IfSome result (λ row. row.now.kind ≤ 2) }
-{
-    for row in rows {
-        if let Some(row) = row {
-            if row.kind == kind {
-                return Some(row);
-            }
-        }
-    }
-    None
 }
 
 impl<const ROWS: usize> Subscribers<ROWS> {
@@ -45,12 +30,22 @@ impl<const ROWS: usize> Subscribers<ROWS> {
         }
     }
 
+    /// The row of a kind, where there is one.
+    #[tactic(auto, using(crate::proofs::RowsLemmas::found_kind))]
+    fn row(&self, kind: u8) -> Option<&Row>
+        ensures found { option_map row_kind (option_copied result) ≡ find (is_kind kind) (kinds_of self.now) }
+        ensures named { IfSome result (λ row. row.now.kind ≡ kind) }
+        ensures range { IfSome result (λ row. row.now.kind ≤ 2) }
+    {
+        find_row(&self.rows, u16::from(kind))
+    }
+
     /// Whether there is a subscriber of a kind.
     pub(crate) fn has(&self, kind: u8) -> bool
         ensures known { result ≡ has_kind (kinds_of self.now) kind }
         ensures range { IsTrue result → kind ≤ 2 }
     {
-        find_row(&self.rows, kind).is_some()
+        self.row(kind).is_some()
     }
 
     /// Whether there are `ROWS` subscribers.
@@ -83,7 +78,7 @@ impl<const ROWS: usize> Subscribers<ROWS> {
         ensures value { result ≡ next_value kind v change }
         ensures range { result < 2 ^ 32 }
     {
-        match find_row(&self.rows, kind) {
+        match self.row(kind) {
             Some(row) => (row.call)(v, &change),
             None => next(kind, v, &change),
         }

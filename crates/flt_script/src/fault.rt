@@ -117,9 +117,11 @@ impl fmt::Display for ParseFault {
 impl Error for ParseFault {}
 
 /// Why a line could not be read.
-#[derive(Clone, Copy)]
-pub(crate) enum LineFault {
+#[derive(Clone, Copy, Debug, PartialEq, Eq)]
+pub enum LineFault {
+    /// There was not enough memory. It says nothing of the line.
     Memory,
+    /// The line is refused.
     Cause(LineCause),
 }
 

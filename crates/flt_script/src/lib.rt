@@ -5,7 +5,7 @@
 //! has. The layer above calls `fetch`, which reads the script of a source, or `parse`: by its clause `exact` it answers, for all
 //! bytes, the script or the first fault that the definition `script_of` gives; by `served` the table has what the events
 //! use; and the type `Script` keeps what the steps have in common. `load` makes the script of a load, which no text spells.
-//! `write_unread` and `write_script_fault` write why there is no script. `read_step` reads one step by itself, `next_line` takes
+//! `write_unread` and `write_script_fault` write why there is no script. `read_step` reads one step by itself, `read_alone` any line behind a configuration that is closed, `next_line` takes
 //! the first line off a text, and `place_of_feed` and `without_return` find where one ends.
 //! Read `specs/Text` first, then `specs/Said` and `specs/Line` (a line by itself), `specs/Behind`
 //! (what the lines before a line gave), `specs/Refusal` (a line against those), `specs/Script` (the whole), `specs/Fetched` (the script
@@ -34,8 +34,8 @@ mod refusing;
 mod script;
 mod text;
 
-pub use alone::{next_line, read_step};
-pub use fault::{LineCause, ParseFault, ScriptFault};
+pub use alone::{AloneLine, next_line, read_alone, read_step};
+pub use fault::{LineCause, LineFault, ParseFault, ScriptFault};
 pub use fetching::{Fetched, fetch};
 pub use loading::load;
 pub use numeral::read_number;

@@ -78,7 +78,7 @@ module _ {c : Config} {before after : BlocksState} (tries : TriesMark c before a
   none_started marked g begins = let now = begins_marked None g begins in record {
     mark = marked missing begins.0.mark;
     first = now.1;
-    second = now.2;
+    equal = now.2 ∙ sym now.1;
     names = now.0.names;
     applications = now.0.applications;
     excess = now.0.excess;

@@ -1,6 +1,7 @@
 -- A call that met none of the causes of its errors answers Ok.
-use Rattle.std.proofs.Common.{◌≡◌, Result, Ok, Err, ⊎_elim, ap, refl}
+use Rattle.std.proofs.Common.{◌≡◌, Result, Ok, Err, ⊎_elim, ap, refl, sym}
 use Rattle.std.specs.Prelude.{◌⊎◌, ◌≢◌, IsOk, IsErrOf}
+use Rattle.std.specs.Result.{IsErrAnd}
 use Rattle.flt_store_model.specs.Holding.{Generation, last_number}
 use Rattle.flt_store.specs.declared.fault.SaveFault.{SaveFault}
 use Rattle.flt_store.specs.declared.fault.SaveFault.TheVariants as saving
@@ -12,6 +13,13 @@ save_met_none (Ok number) flash spent sequence = refl
 save_met_none (Err saving.Flash) flash spent sequence = absurd (flash refl)
 save_met_none (Err saving.Spent) flash spent sequence = absurd (spent refl)
 save_met_none (Err saving.SequenceSpent) flash spent sequence = absurd (sequence refl)
+
+-- A fault that is handed on is that of the sequence numbers, where it is neither the flash's nor that of the generations' numbers.
+pub handed_sequence : {T : Type 0} (answer : Result T SaveFault) (fault : SaveFault) → IsErrAnd answer (λ e. e ≡ fault) → (fault ≡ saving.Flash → ⊥) → (fault ≡ saving.Spent → ⊥) → IsErrOf answer saving.SequenceSpent
+handed_sequence (Ok value) fault is flash spent = absurd is
+handed_sequence (Err saving.Flash) fault is flash spent = absurd (flash (sym is))
+handed_sequence (Err saving.Spent) fault is flash spent = absurd (spent (sym is))
+handed_sequence (Err saving.SequenceSpent) fault is flash spent = refl
 
 pub put_met_none : {T : Type 0} (result : Result T PutFault) → (IsErrOf result putting.Flash → ⊥) → (IsErrOf result putting.SequenceSpent → ⊥) → IsOk result
 put_met_none (Ok number) flash sequence = refl

@@ -45,7 +45,7 @@ module _ (c : Config) where
         subst (λ (d : Commit). IsStarted c after (Some d) g) same (record {
           mark = mark_kept c before after agree mark;
           first = (raw, first, form.1);
-          second = (raw, ap only_bytes second, form.1);
+          equal = ap only_bytes second ∙ sym first;
           names = commit_names_kept c before after agree form.0 g form.2;
           applications = applications_kept c before after agree holds.applications;
           excess = excess;
@@ -172,7 +172,7 @@ module _ (c : Config) where
       record {
         mark = mark;
         first = first;
-        second = none_of_second (value second_commit) none;
+        equal = none_of_second (value second_commit) none ∙ sym first;
         names = subst (λ (d : Content). Names c value d h) is sound.holds.names;
         applications = sound.holds.applications;
         excess = sound.holds.excess;

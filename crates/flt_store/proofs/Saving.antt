@@ -19,7 +19,7 @@ use Rattle.flt_store.specs.Started.{NamesOf, IsStarted, AgreeButForCommit}
 use Rattle.flt_store_model.proofs.Pages.{used_range}
 use Rattle.flt_store.proofs.Causes.{borne_stays}
 use Rattle.flt_store.proofs.Successors.{Apart, used_of, moved_of, small_index, unmoved}
-use Rattle.flt_store.proofs.Started.{holds_of, sound_started, numbered, names_kept, mark_kept, applications_kept}
+use Rattle.flt_store.proofs.Started.{holds_of, sound_started, numbered, names_kept, mark_kept, applications_kept, second_of, equal_still}
 
 module _ (c : Config) where
   module _ (current : Option Commit) (next : Commit) (bytes_of : ℕ → List ℕ) (before after : ℕ → Content) (only : OnlyNewBlocks c current next bytes_of before after) where
@@ -45,7 +45,7 @@ module _ (c : Config) where
     settled g within started = record {
       mark = kept_low mark_number (omega arith) ∙ started.mark;
       first = subst (IsContentOf current) (sym (kept_low first_commit (omega arith))) started.first;
-      second = subst (λ (content : Content). IsContentOf current (only_bytes content)) (sym (kept_low second_commit (omega arith))) started.second;
+      equal = equal_still (kept_low first_commit (omega arith)) (kept_low second_commit (omega arith)) started.equal;
       names = names current (λ id written. moved_of c current next id written) started.names;
       applications = λ block below. subst (λ (content : Content). IsTrue (is_application content)) (sym (kept_application block)) (started.applications block below);
       excess = borne_stays c before after within started.excess;
@@ -79,11 +79,11 @@ module _ (c : Config) where
   module _ (before after : ℕ → Content) (agree : AgreeButForCommit before after) (excess : IsBorne c after) where
     -- A started image whose copies of the commit were both given another commit.
     restarted : (current commit : Option Commit) (g h : Generation) → IsStarted c before current g → NamesOf c before commit h
-        → IsContentOf commit (after first_commit) → IsContentOf commit (only_bytes (after second_commit)) → IsStarted c after commit h
-    restarted current commit g h started names first second = record {
+        → IsContentOf commit (after first_commit) → only_bytes (after second_commit) ≡ after first_commit → IsStarted c after commit h
+    restarted current commit g h started names first equal = record {
       mark = mark_kept c before after agree started.mark;
       first = first;
-      second = second;
+      equal = equal;
       names = names_kept c before after agree commit h names;
       applications = applications_kept c before after agree started.applications;
       excess = excess;
@@ -99,7 +99,7 @@ module _ (c : Config) where
         record {
           holds = holds_of c after (either_copy (after first_commit) (after second_commit)) (Some next) new (first.0, ap (λ (content : Content). either_copy content (after second_commit)) first.1, first.2)
               mark (names_kept c before after agree (Some next) new names) blocks excess;
-          spares = holds_of c after (only_bytes (after second_commit)) current g (subst (λ (content : Content). IsContentOf current (only_bytes content)) (sym second) started.second)
+          spares = holds_of c after (only_bytes (after second_commit)) current g (subst (λ (content : Content). IsContentOf current (only_bytes content)) (sym second) (second_of started))
               mark (names_kept c before after agree current g started.names) blocks excess;
           order = omega (arith, old, number);
           step = omega (arith, old, number);
@@ -116,7 +116,7 @@ module _ (c : Config) where
 
       -- Both copies were given the next commit.
       pub committed : after first_commit ≡ bytes (commit_bytes next) → after second_commit ≡ bytes (commit_bytes next) → IsStarted c after (Some next) new
-      committed first second = restarted current (Some next) g new started names (of_next (after first_commit) first) (of_next (only_bytes (after second_commit)) (ap only_bytes second))
+      committed first second = restarted current (Some next) g new started names (of_next (after first_commit) first) (ap only_bytes second ∙ sym first)
 
       half : after first_commit ≡ bytes (commit_bytes next) → after second_commit ≡ before second_commit → OldOrNew c after g g new
       half first second = record {
@@ -131,7 +131,7 @@ module _ (c : Config) where
       unchanged : after first_commit ≡ before first_commit → after second_commit ≡ before second_commit → OldOrNew c after g g new
       unchanged first second =
           still_old after current g new
-          (restarted current current g g started started.names (subst (IsContentOf current) (sym first) started.first) (subst (λ (content : Content). IsContentOf current (only_bytes content)) (sym second) started.second))
+          (restarted current current g g started started.names (subst (IsContentOf current) (sym first) started.first) (equal_still first second started.equal))
 
       -- The copies were tried one after the other.
       pub interrupted : (IsTried first_commit × (after second_commit ≡ before second_commit)) ⊎ ((after first_commit ≡ bytes (commit_bytes next)) × IsTried second_commit) → OldOrNew c after g g new

@@ -45,11 +45,19 @@ either_content first (bytes held) None one two = absurd (cc two)
 either_content first missing None one two = ap (λ (content : Content). either_copy content missing) one
 either_content first invalid None one two = ap (λ (content : Content). either_copy content invalid) one
 
+-- The second copy is of the same commit.
+pub second_of : {c : Config} {value : ℕ → Content} {commit : Option Commit} {g : Generation} → IsStarted c value commit g → IsContentOf commit (only_bytes (value second_commit))
+second_of {commit = commit} started = subst (IsContentOf commit) (sym started.equal) started.first
+
+-- The copies are the same bytes, where each of them stayed.
+pub equal_still : {first second first_now second_now : Content} → first_now ≡ first → second_now ≡ second → only_bytes second ≡ first → only_bytes second_now ≡ first_now
+equal_still one two equal = ap only_bytes two ∙ equal ∙ sym one
+
 -- Both copies name the generation.
 pub sound_started : (c : Config) (value : ℕ → Content) (commit : Option Commit) (g : Generation) → IsStarted c value commit g → IsSound c value g g
 sound_started c value commit g started = record {
-  holds = holds_of c value (either_copy (value first_commit) (value second_commit)) commit g (either_content (value first_commit) (value second_commit) commit started.first started.second) started.mark started.names started.applications started.excess;
-  spares = holds_of c value (only_bytes (value second_commit)) commit g started.second started.mark started.names started.applications started.excess;
+  holds = holds_of c value (either_copy (value first_commit) (value second_commit)) commit g (either_content (value first_commit) (value second_commit) commit started.first (second_of started)) started.mark started.names started.applications started.excess;
+  spares = holds_of c value (only_bytes (value second_commit)) commit g (second_of started) started.mark started.names started.applications started.excess;
   order = omega arith;
   step = omega arith;
   same = λ equal. refl;
@@ -114,7 +122,7 @@ module _ {c : Config} {before after : ℕ → Content} (keeps : KeepsGenerations
   started_still commit g mark started = record {
     mark = mark;
     first = subst (IsContentOf commit) (sym first_same) started.first;
-    second = subst (λ (content : Content). IsContentOf commit (only_bytes content)) (sym second_same) started.second;
+    equal = equal_still first_same second_same started.equal;
     names = names_on c before after used_same commit g started.names;
     applications = keeps.applications started.applications;
     excess = keeps.excess started.excess;

@@ -22,11 +22,11 @@ abbrev pub NamesOf : Config → (ℕ → Content) → Option Commit → Generati
 NamesOf c value None g = g ≡ first_generation c
 NamesOf c value (Some commit) g = CommitNames c value commit g
 
--- The mark stands, and both copies of the commit, or neither before the first save, name the generation.
+-- The mark stands, and both copies of the commit, or neither before the first save, name the generation, by the same bytes.
 pub record IsStarted (c : Config) (value : ℕ → Content) (commit : Option Commit) (g : Generation) : Type 0 where
   pub mark : HasMark c value
   pub first : IsContentOf commit (value first_commit)
-  pub second : IsContentOf commit (only_bytes (value second_commit))
+  pub equal : only_bytes (value second_commit) ≡ value first_commit
   pub names : NamesOf c value commit g
   pub applications : (block : ℕ) → block < applications → IsTrue (is_application (value (application_number block)))
   pub excess : IsBorne c value

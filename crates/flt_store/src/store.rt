@@ -1,5 +1,5 @@
 //! Generations in the blocks of a driver.
-ghost use Rattle.std.specs.Prelude.{◌≡◌, ◌≢◌, ◌+◌, ◌*◌, ◌<◌, ℕ, length, Err, IsErr, IsErrOf, IsOk, IfOk, OnOk, OnErr, IsTrue, IsFalse};
+ghost use Rattle.std.specs.Prelude.{◌≡◌, ◌≢◌, ◌⊎◌, ◌+◌, ◌*◌, ◌<◌, ℕ, length, Err, IsErr, IsErrOf, IsOk, IfOk, OnOk, OnErr, IsTrue, IsFalse};
 ghost use Rattle.flt_flash.specs.State.{CanArm};
 ghost use Rattle.flt_flash.specs.Calls.{ArmsDriver, CostsAtMost, Follows, NoErase, NoFault, PowersUpDriver};
 ghost use Rattle.flt_nvm.specs.Driver.{driver_of as driver_beneath, table_of};
@@ -156,8 +156,9 @@ impl<B: Blocks + Drop> Store<B> {
     /// a save after a failed one those that could not be read in three tries.
     ///
     /// After `Ok` the image names the new generation, by both copies. After an error it names the generation before or the new one.
-    /// `Spent` comes where the generation before has the number 2^32 - 1. It is `Ok` where that has another number, the flash failed
-    /// less than three times and a sequence number is left.
+    /// `Spent` comes where the generation before has the number 2^32 - 1; so it does where the flash failed less than three times, unless
+    /// an earlier save failed and the copies can't be made equal for want of a sequence number. It is `Ok` where that has another number,
+    /// the flash failed less than three times and a sequence number is left.
     pub fn save(&mut self, config: &ValidConfig, state: &Persist) -> Result<u32, SaveFault>
         requires alive { IsAlive config.now self.old }
         requires fits { Fits config.now state.now }
@@ -170,8 +171,8 @@ impl<B: Blocks + Drop> Store<B> {
         ensures unsaved { WhileRunning config.now self.old (λ held spare. IsErrOf result SaveFault.Flash
             → IsUnsaved config.now (is_settled self.old) (driver_of self.old) (driver_of self.new)) }
         ensures spent { WhileRunning config.now self.old (λ held spare. IsErrOf result SaveFault.Spent → IsLast config.now held spare self.old self.new) }
-        ensures last { WhileRunning config.now self.old (λ held spare. IsTrue (is_settled self.old) → held.number ≡ last_number
-            → result ≡ Err SaveFault.Spent) }
+        ensures last { WhileRunning config.now self.old (λ held spare. IsUndisturbed self.old self.new → held.number ≡ last_number
+            → (result ≡ Err SaveFault.Spent) ⊎ (IsFalse (is_settled self.old) × IsErrOf result SaveFault.SequenceSpent)) }
         ensures sequence { WhileRunning config.now self.old (λ held spare. IsErrOf result SaveFault.SequenceSpent → IsStuck (driver_of self.new)) }
         ensures completed { WhileRunning config.now self.old (λ held spare. held.number ≢ last_number → IsUnhindered self.old self.new → IsOk result) }
         ensures applications { SameApplications (driver_of self.old).value (driver_of self.new).value }

@@ -162,6 +162,18 @@ impl<M: Machine> Turn<M> {
         Ok(Answer { place, reply })
     }
 
+    /// Waits a while for a moment at which no ticket is out, so that a short turn of another lane does not make this one wait in line.
+    #[inline(always)]
+    fn await_free(&self) {
+        let shared = &self.table.shared;
+        for _ in 0..YIELDS {
+            if shared.peek(NEXT) <= shared.peek(SERVED) {
+                return;
+            }
+            yield_now();
+        }
+    }
+
     /// Draws a ticket, waits until it is served, and takes the vault out of its slot. The ticket is the call's place.
     #[inline(always)]
     fn take_turn<R: Wait>(&self, rt: &R, token: &mut Token<M>) -> (u32, Vault<M>)
@@ -172,6 +184,7 @@ impl<M: Machine> Turn<M> {
         ensures turn { token.new.me ≡ (turned result.0 result.1.journal.items (drawn result.0 token.old.me.0), (0, None) ∷ []) }
         ensures found { IsTakenOut result.0 (drawn result.0 token.old.me.0) result.1 }
     {
+        self.await_free();
         let shared = &self.table.shared;
         let ticket = shared.fetch_add::<Draw>(token, NEXT, 1);
         let mut yields = YIELDS;

@@ -1,6 +1,6 @@
-//! The jobs over a flash and an EEPROM that a store of bytes keeps, which stops in each write after each number of bytes of a page: what the bytes
+//! The jobs over a flash and an EEPROM that a store of bytes keeps, which stops in each write after each number of its bytes: what the bytes
 //! then hold is opened again, and says what stood before the call that failed, or what it asked for.
-ghost use Rattle.std.specs.Prelude.{◌≡◌, IfOk};
+ghost use Rattle.std.specs.Prelude.{◌≡◌, IfOk, Some};
 ghost use Rattle.flt_file.specs.MemBytes.{bytes_of};
 ghost use Rattle.flt_store_tests.specs.Room.{IsRoomy, SameRoom};
 
@@ -9,7 +9,7 @@ use super::cuts::{
 };
 use super::rows::{image_of, of_version_1};
 use super::*;
-use flt_file::{EepromFile, FlashFile, MemBytes};
+use flt_file::{ByteStore, EepromFile, FlashFile, MemBytes, StoreFault};
 
 /// The bytes of a flash, and of an EEPROM.
 const FLASH_BYTES: usize = 4096;
@@ -32,13 +32,41 @@ struct Stop {
     bytes: usize,
 }
 
-/// A store of these bytes, which may stop. Its read at the opening counts as number 0.
-fn bytes_in(bytes: Vec<u8>, stop: Option<Stop>) -> MemBytes
-    ensures { bytes_of result ≡ bytes.items }
-{
-    match stop {
-        None => MemBytes::new(bytes),
-        Some(stop) => MemBytes::failing(bytes, u64::from(stop.write), stop.bytes),
+/// Bytes in memory that note how long the first write was that failed.
+#[derive(Drop)]
+struct Noted {
+    bytes: MemBytes,
+    stopped: Option<usize>,
+}
+
+impl Noted {
+    /// These bytes, which may stop. Their read at the opening counts as number 0.
+    fn new(bytes: Vec<u8>, stop: Option<Stop>) -> Noted
+        ensures { bytes_of result.bytes ≡ bytes.items }
+    {
+        Noted {
+            bytes: match stop {
+                None => MemBytes::new(bytes),
+                Some(stop) => MemBytes::failing(bytes, u64::from(stop.write), stop.bytes),
+            },
+            stopped: None,
+        }
+    }
+}
+
+impl ByteStore for Noted {
+    ghost told = { λ store. Some (bytes_of store.bytes) };
+
+    fn read(&mut self, out: &mut [u8]) -> Result<(), StoreFault> {
+        self.bytes.read(out)
+    }
+
+    fn write(&mut self, at: usize, bytes: &[u8]) -> Result<(), StoreFault> {
+        let written = self.bytes.write(at, bytes);
+        if written.is_err() && self.stopped.is_none() {
+            self.stopped = Some(bytes.len());
+        }
+        written
     }
 }
 
@@ -48,13 +76,13 @@ fn flash_store(
     bytes: Vec<u8>,
     config: &ValidConfig,
     stop: Option<Stop>,
-) -> Result<Store<Fee<FlashFile<MemBytes>>>, Fail>
+) -> Result<Store<Fee<FlashFile<Noted>>>, Fail>
     ensures { IfOk result (λ store. IsRoomy config.now store) }
 {
     if bytes.len() != FLASH_BYTES {
         return Err(Fail::from("size"));
     }
-    let flash = FlashFile::load(alloc, bytes_in(bytes, stop), PAGES)?;
+    let flash = FlashFile::load(alloc, Noted::new(bytes, stop), PAGES)?;
     store_over(alloc, flash, config)
 }
 
@@ -64,28 +92,29 @@ fn units_store_in(
     bytes: Vec<u8>,
     config: &ValidConfig,
     stop: Option<Stop>,
-) -> Result<Store<Ea<EepromFile<MemBytes>>>, Fail>
+) -> Result<Store<Ea<EepromFile<Noted>>>, Fail>
     ensures { IfOk result (λ store. IsRoomy config.now store) }
 {
     if bytes.len() != UNITS_BYTES {
         return Err(Fail::from("size"));
     }
-    let device = EepromFile::load(alloc, bytes_in(bytes, stop), UNITS)?;
+    let device = EepromFile::load(alloc, Noted::new(bytes, stop), UNITS)?;
     store_of_units(alloc, units_over(alloc, device)?)
 }
 
-/// Turns the power on, and makes a job until a call fails: what stood before the last call, what it asked for, and whether all was made.
+/// Turns the power on, and makes a job until a call fails: what stood before the last call, and what it asked for.
 fn live<B: Blocks + Drop>(
     rt: &impl Abort,
     store: &mut Store<B>,
     config: &ValidConfig,
     case: &Case<'_>,
-) -> (Told, Told, bool)
+) -> (Told, Told)
     requires { IsRoomy config.now store.old }
     ensures { SameRoom store.old store.new }
 {
     power_up(store);
-    run_job(rt, store, config, case.first, case.job)
+    let (before, asked, _) = run_job(rt, store, config, case.first, case.job);
+    (before, asked)
 }
 
 /// Turns the power on, and looks whether the store says one of these.
@@ -104,21 +133,21 @@ fn says<B: Blocks + Drop>(
     Ok(found == before || found == asked)
 }
 
-/// Makes a job on a flash in bytes that stop, and opens them again. It tells whether all of the job was made.
+/// Makes a job on a flash in bytes that stop, and opens them again. It tells how long the write was that stopped.
 fn flash_stops(
     rt: &impl Abort,
     alloc: Global,
     config: &ValidConfig,
     case: &Case<'_>,
     stop: Stop,
-) -> Result<bool, Fail> {
+) -> Result<Option<usize>, Fail> {
     let bytes = Vec::from_slice(alloc, case.bytes)?;
     let mut store = flash_store(alloc, bytes, config, Some(stop))?;
-    let (before, asked, done) = live(rt, &mut store, config, case);
-    let bytes = store.retire().retire().into_store().into_bytes();
-    let again = flash_store(alloc, bytes, config, None)?;
+    let (before, asked) = live(rt, &mut store, config, case);
+    let noted = store.retire().retire().into_store();
+    let again = flash_store(alloc, noted.bytes.into_bytes(), config, None)?;
     assert!(rt; says(rt, again, config, before, asked)?, "{stop:?}");
-    Ok(done)
+    Ok(noted.stopped)
 }
 
 /// The same on an EEPROM.
@@ -128,26 +157,51 @@ fn units_stop(
     config: &ValidConfig,
     case: &Case<'_>,
     stop: Stop,
-) -> Result<bool, Fail> {
+) -> Result<Option<usize>, Fail> {
     let bytes = Vec::from_slice(alloc, case.bytes)?;
     let mut store = units_store_in(alloc, bytes, config, Some(stop))?;
-    let (before, asked, done) = live(rt, &mut store, config, case);
-    let bytes = store.retire().retire().into_store().into_bytes();
-    let again = units_store_in(alloc, bytes, config, None)?;
+    let (before, asked) = live(rt, &mut store, config, case);
+    let noted = store.retire().retire().into_store();
+    let again = units_store_in(alloc, noted.bytes.into_bytes(), config, None)?;
     assert!(rt; says(rt, again, config, before, asked)?, "{stop:?}");
-    Ok(done)
+    Ok(noted.stopped)
 }
 
-/// Each write of a job on a flash stops after each number of bytes of a page; an erase, which writes more, stops there too.
-fn each_stops(rt: &impl Abort, alloc: Global, case: &Case<'_>) -> Result<(), Fail> {
-    let config = configured(rt, 1, 1, 1);
-    for bytes in 0..33usize {
-        for write in 1..case.writes.saturating_add(2) {
-            let stop = Stop { write, bytes };
-            let done = flash_stops(rt, alloc, &config, case, stop)?;
-            assert!(rt; done == (write > case.writes), "{stop:?}");
+/// One write of a job on a flash stops after each number of its bytes. It tells how many it has.
+fn write_stops(
+    rt: &impl Abort,
+    alloc: Global,
+    config: &ValidConfig,
+    case: &Case<'_>,
+    write: u32,
+) -> Result<usize, Fail> {
+    for bytes in 0..FLASH_BYTES {
+        let stopped = flash_stops(rt, alloc, config, case, Stop { write, bytes })?;
+        if stopped == Some(bytes) {
+            return Ok(bytes);
         }
     }
+    Err(Fail::from("no write is so long"))
+}
+
+/// Each write of a job on a flash stops after each number of its bytes: 32 of a program, and those of a sector of an erase.
+fn each_stops(rt: &impl Abort, alloc: Global, case: &Case<'_>, erases: u32) -> Result<(), Fail> {
+    let config = configured(rt, 1, 1, 1);
+    let mut whole = 0u32;
+    for write in 1..case.writes.saturating_add(1) {
+        let length = write_stops(rt, alloc, &config, case, write)?;
+        if length == FLASH_BYTES / 2 {
+            whole = whole.saturating_add(1);
+        } else {
+            assert_eq!(rt; length, 32);
+        }
+    }
+    assert_eq!(rt; whole, erases);
+    let behind = Stop {
+        write: case.writes.saturating_add(1),
+        bytes: 0,
+    };
+    assert_eq!(rt; flash_stops(rt, alloc, &config, case, behind)?, None);
     Ok(())
 }
 
@@ -169,7 +223,7 @@ fn each_write_to_the_bytes_of_a_flash_stops(rt: HostRuntime) -> Result<(), Fail>
         job: &JOB,
         writes: OPERATIONS,
     };
-    each_stops(&rt, rt.alloc(), &case)
+    each_stops(&rt, rt.alloc(), &case, 2)
 }
 
 #[test]
@@ -182,7 +236,7 @@ fn each_write_to_the_bytes_of_version_1_stops(rt: HostRuntime) -> Result<(), Fai
         job: &OLD_JOB,
         writes: OLD_OPERATIONS,
     };
-    each_stops(&rt, rt.alloc(), &case)
+    each_stops(&rt, rt.alloc(), &case, 1)
 }
 
 #[test]
@@ -198,8 +252,8 @@ fn each_write_to_the_bytes_of_an_eeprom_stops(rt: HostRuntime) -> Result<(), Fai
     for bytes in 0..33usize {
         for write in 1..WRITES + 2 {
             let stop = Stop { write, bytes };
-            let done = units_stop(&rt, rt.alloc(), &config, &case, stop)?;
-            assert!(&rt; done == (write > WRITES), "{stop:?}");
+            let stopped = units_stop(&rt, rt.alloc(), &config, &case, stop)?;
+            assert!(&rt; stopped.is_none() == (write > WRITES), "{stop:?}");
         }
     }
     Ok(())

@@ -12,9 +12,9 @@ use Rattle.flt_store.proofs.Started.{numbered as number_of_started}
 use Rattle.flt_store_model.specs.Holding.{Generation, last_number}
 use Rattle.flt_store.specs.Store.{driver_of, commit_of, kept_of, is_settled, numbered, IsReady, IsRunning}
 use Rattle.flt_store.proofs.Started.{sound_started}
-use Rattle.flt_store.proofs.Running.{alive_after, served_on, undisturbed_until, held_is_chosen, ok_map, on_ok, err_taken, err_both, chosen_on, one_of_chosen, rises_from, unsettled_runs, told_by}
+use Rattle.flt_store.proofs.Running.{alive_after, served_on, undisturbed_until, held_is_chosen, ok_map, on_ok, err_taken, err_both, chosen_on, one_of_chosen, rises_from, unfailed, unsettled_runs, told_by}
 use Rattle.flt_store.proofs.Dark.{is_unsettled}
-use Rattle.flt_store.proofs.Completing.{save_met_none, not_last}
+use Rattle.flt_store.proofs.Completing.{handed_sequence, save_met_none, not_last}
 use Rattle.flt_store.proofs.store.Store.save.Goals.{After-save_next}
 use Rattle.flt_store.proofs.store.Store.save.Goals as goal
 
@@ -76,10 +76,22 @@ returns-clause-spent g c = λ h s running told.
     }
 
 pub returns-clause-last : goal.returns-clause-last
-returns-clause-last g c = λ h s running yes last.
+returns-clause-last g c = λ h s running undisturbed last.
+    let before = driver_of c.args.self.now in
+    let middle = driver_of c.settle.new.self in
     let settled = c.in_ok-settle.ensures.settles h s running in
-    let number : settled.chosen.number ≡ last_number = ⊎_elim (λ by_held. ap (λ (d : Generation). d.number) by_held ∙ last) (λ by_spare. (let no = by_spare.1 in absurd (cc (yes, no)))) settled.is in
-    c.save_next.ensures.last settled.chosen settled.ready number
+    let then_ = undisturbed_until before middle (driver_of c.save_next.new.self) c.save_next.ensures.follows undisturbed in
+    let held = held_is_chosen before middle (is_settled c.args.self.now) h s settled.chosen then_ settled.is in
+    inl (c.save_next.ensures.last settled.chosen settled.ready (ap (λ (d : Generation). d.number) held ∙ last))
+
+pub returns-in_err-settle-clause-last : goal.returns-in_err-settle-clause-last
+returns-in_err-settle-clause-last g c = λ h s running undisturbed last.
+    let unsettled = is_unsettled (is_settled c.args.self.now) (λ yes. c.in_err-settle.ensures.at_once yes refl) in
+    let never = unfailed (driver_of c.args.self.now) (driver_of c.settle.new.self) (is_settled c.args.self.now) unsettled undisturbed in
+    inr (
+      unsettled,
+      handed_sequence c.from_residual.result _ c.from_residual.ensures.1 (λ is. never (c.in_err-settle.ensures.flash h s running (ap Err is))) (λ is. c.in_err-settle.ensures.not_spent (ap Err is)),
+    )
 
 pub returns-clause-places : goal.returns-clause-places
 returns-clause-places g c = λ h s running undisturbed.

@@ -1,0 +1,1 @@
+"""Pictures of the fault memory: what draw.py stands on."""

@@ -1,0 +1,7 @@
+use Rattle.flt_live.proofs.Writings.{life_said, on_taken}
+use Rattle.flt_live.proofs.living.live.Goals as goal
+
+pub returns-in-Started-clause-said : goal.returns-in-Started-clause-said
+returns-in-Started-clause-said g c =
+    life_said (g.K.Sink.held c.args.sink.now) (g.K.Sink.held c.say_boot.new.sink) (g.K.Sink.held c.take_lines-end.new.sink) c.begin-boot.result c.args.number _ c.take_lines-end.result
+    c.status_by-status.ensures (on_taken _ c.say_boot.result _ c.in_default.is c.say_boot.ensures.ok) c.take_lines-end.ensures.grown

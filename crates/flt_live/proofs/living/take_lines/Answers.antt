@@ -1,0 +1,16 @@
+use Rattle.flt_live.proofs.Writings.{grown_by}
+use Rattle.flt_live.proofs.living.take_lines.Goals as goal
+
+pub loop-preserved : goal.loop-preserved
+loop-preserved g c = record {
+  same = c.answer_line.ensures.same;
+  up = c.answer_line.ensures.up;
+  ready = c.answer_line.ensures.ready;
+  grown = grown_by g.K.Sink.held g.K.Sink.faults (g.K.Sink.held c.args.sink.now) c.loop.sink c.answer_line.new.sink c.answer_line.ensures.answered.line c.answer_line.result _ c.in-Ok-Line.is
+      c.answer_line.ensures.answered.written c.loop.invariant.grown;
+}
+
+pub returns-in-Ok-Power-clause-grown : goal.returns-in-Ok-Power-clause-grown
+returns-in-Ok-Power-clause-grown g c =
+    grown_by g.K.Sink.held g.K.Sink.faults (g.K.Sink.held c.args.sink.now) c.loop.sink c.answer_line.new.sink c.answer_line.ensures.answered.line c.answer_line.result _ c.in-Ok-Power.is
+    c.answer_line.ensures.answered.written c.loop.invariant.grown

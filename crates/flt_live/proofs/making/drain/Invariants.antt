@@ -1,0 +1,15 @@
+use Rattle.std.proofs.Common.{◌≡◌, ◌≤◌, ◌+◌}
+use Rattle.flt_store_model.specs.Holding.{Generation}
+use Rattle.flt_queue.specs.Queue.{History}
+use Rattle.flt_queue.specs.Stands.{Stands}
+use Rattle.flt_store.specs.Store.{IsRunning}
+use Rattle.flt_live.specs.Draining.{IsDraining}
+use Rattle.flt_live.proofs.making.drain.Given as goal
+
+abbrev pub invariant-loop-job : goal.invariant-loop-job
+invariant-loop-job g l = record {
+  blocks : l.queue.blocks ≡ l.initial.queue.blocks;
+  running : (held spare : Generation) → IsRunning l.config held spare l.initial.store → IsRunning l.config held spare l.store;
+  few : l.written + l.failed ≤ l._job;
+  draining : (jobs : History) → Stands l.config.blocks jobs l.initial.queue → IsDraining l.config.blocks jobs l._job l.written l.failed l.queue;
+}

@@ -1,0 +1,44 @@
+use Rattle.std.proofs.Common.{◌∙◌, ◌∷◌, sym, subst}
+use Rattle.flt_dcm.specs.Whole.{state_of}
+use Rattle.flt_queue.specs.Stands.{Stands}
+use Rattle.flt_life_model.specs.Actions.{IsPossible}
+use Rattle.flt_life_model.specs.Answers.{told_with}
+use Rattle.flt_live.proofs.Midway.{made_call, made_queue, made_save, made_drain, made_get}
+use Rattle.flt_live.proofs.making.make.Goals as goal
+
+pub returns-in-Call-clause-made : goal.returns-in-Call-clause-made
+returns-in-Call-clause-made g c = λ step is.
+    let possible = subst (IsPossible c.args.config.now) c.in-Call.is c.requires.possible in
+    made_call c.args.config.now step c.in-Call.op _ _ (is ∙ c.in-Call.is) possible.0 (state_of c.args.unit.now) (state_of c.apply_into-reply.new.self) c.args.queue.now c.args.store.now
+    c.apply_into-reply.ensures.stands c.apply_into-reply.ensures.answer
+
+pub returns-in-Queue-clause-made : goal.returns-in-Queue-clause-made
+returns-in-Queue-clause-made g c = λ step is.
+    let blocks = c.requires.blocks in
+    let old = c.args.queue.now in
+    made_queue c.args.config.now step c.in-Queue.op _ _ (is ∙ c.in-Queue.is) (state_of c.args.unit.now) old c.apply-reply.new.self c.args.store.now
+    (λ jobs stands. subst (λ n. Stands n (c.in-Queue.op ∷ jobs) c.apply-reply.new.self) blocks (c.apply-reply.ensures.stands jobs (subst (λ n. Stands n jobs old) (sym blocks) stands)))
+    (λ jobs stands. c.apply-reply.ensures.answer jobs (subst (λ n. Stands n jobs old) (sym blocks) stands))
+
+pub returns-in-Save-clause-made : goal.returns-in-Save-clause-made
+returns-in-Save-clause-made g c = λ step is.
+    let response = c.save.new.buffers.response.items in
+    made_save c.args.config.now step (told_with response c.save.result) (is ∙ c.in-Save.is) (c.save.ensures.is response) (state_of c.args.unit.now) (state_of c.save.new.unit) c.args.queue.now c.args.store.now c.save.new.store
+    (λ first journal earlier living. c.save.ensures.living first journal earlier response living)
+
+pub returns-in-Get-clause-made : goal.returns-in-Get-clause-made
+returns-in-Get-clause-made g c = λ step is.
+    let response = c.args.buffers.now.response.items in
+    made_get c.args.config.now step (told_with response c.get.result) c.in-Get.block (is ∙ c.in-Get.is) (c.get.ensures.is response) (state_of c.args.unit.now) c.args.queue.now c.args.store.now c.get.new.store
+    (λ first journal earlier living. c.get.ensures.living first journal earlier (state_of c.args.unit.now) response living)
+
+pub returns-in-Drain-clause-made : goal.returns-in-Drain-clause-made
+returns-in-Drain-clause-made g c = λ step is.
+    let alive = c.requires.alive in
+    made_drain c.args.config.now step c.drain-written.result.0 c.drain-written.result.1 (is ∙ c.in-Drain.is) (state_of c.args.unit.now) c.args.queue.now c.drain-written.new.queue c.args.store.now c.drain-written.new.store
+    c.drain-written.ensures.running c.drain-written.ensures.drained
+
+pub returns-in-Drain-clause-alive : goal.returns-in-Drain-clause-alive
+returns-in-Drain-clause-alive g c =
+    let alive = c.requires.alive in
+    record { held = alive.held; spare = alive.spare; running = c.drain-written.ensures.running alive.held alive.spare alive.running }

@@ -1,0 +1,34 @@
+use Rattle.std.proofs.Common.{◌∷◌, refl}
+use Rattle.flt_model.specs.declared.call.Op.TheVariants as ops
+use Rattle.flt_life_model.specs.Journal.{entry, calls_of}
+use Rattle.flt_life_model.specs.Chain.{start_from}
+use Rattle.flt_life_model.proofs.Keeping.{kept_saved, kept_failed}
+use Rattle.flt_live.proofs.making.save.Goals as goal
+
+pub returns-in-Ok-clause-living : goal.returns-in-Ok-clause-living
+returns-in-Ok-clause-living g c = λ first journal told response living.
+    let start = start_from c.args.config.now first.state in
+    let saved = c.in-Ok.ensures.saved living.held living.spare living.running in
+    let taken = c.take_snapshot.ensures.taken start (calls_of journal) living.stands in
+    record {
+      stands = c.apply_into.ensures.stands _ _ (c.take_snapshot.ensures.stands start (calls_of journal) living.stands);
+      held = _;
+      spare = _;
+      running = saved.running;
+      kept = rw taken (kept_saved c.args.config.now first journal told living.held living.spare living.kept saved.chosen saved.is 0 c.in-Ok.generation (entry 0 ops.Snapshot ∷ journal) saved.next refl);
+    }
+
+pub returns-in-Err-clause-living : goal.returns-in-Err-clause-living
+returns-in-Err-clause-living g c = λ first journal told response living.
+    let start = start_from c.args.config.now first.state in
+    let left = c.in-Err.ensures.failed living.held living.spare living.running in
+    let taken = c.take_snapshot.ensures.taken start (calls_of journal) living.stands in
+    let held_is = rw taken at left.held_is in
+    let spare_is = rw taken at left.spare_is in
+    record {
+      stands = c.take_snapshot.ensures.stands start (calls_of journal) living.stands;
+      held = left.now_held;
+      spare = left.now_spare;
+      running = left.running;
+      kept = kept_failed c.args.config.now first journal told living.held living.spare living.kept left.chosen left.is 0 c.in-Err.fault left.now_held left.now_spare held_is spare_is;
+    }

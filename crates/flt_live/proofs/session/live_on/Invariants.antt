@@ -1,0 +1,12 @@
+use Rattle.std.proofs.Common.{◌≡◌}
+use Rattle.flt_dcm.specs.Whole.{config_of}
+use Rattle.flt_live.specs.Answered.{IsReady}
+use Rattle.flt_live.specs.Said.{HasGrown}
+use Rattle.flt_live.proofs.session.live_on.Given as goal
+
+abbrev pub invariant-loop : goal.invariant-loop
+invariant-loop g l = record {
+  same : config_of l.unit ≡ l.config;
+  ready : IsReady l.room;
+  grown : HasGrown (g.K.Sink.held l.initial.sink) (g.K.Sink.held l.sink);
+}

@@ -1,0 +1,46 @@
+-- The bytes ahead of a reader.
+use Rattle.std.specs.Prelude.{◌≡◌, ◌≢◌, ◌<◌, All, length, ℕ, ◌-◌, List, [], ◌∷◌, ◌++◌, Option, Some, None, take, drop}
+use Rattle.std.specs.Io.KnownBytes.{Keeps, Consumes, IsAtEnd}
+use Rattle.flt_live.specs.declared.reader.LineReader.{LineReader}
+use Rattle.flt_live.specs.declared.reader.Line.{Line}
+use Rattle.flt_live.specs.declared.reader.Line.TheVariants.{Fed, Cut, Ended}
+
+-- What was pulled and not taken.
+abbrev pub pulled : LineReader → List ℕ
+pulled reader = take (reader.to - reader.from) (drop reader.from reader.piece)
+
+-- What was pulled and not taken, and what is left of the source, where it tells that.
+abbrev pub ahead_of : Option (List ℕ) → LineReader → Option (List ℕ)
+ahead_of None reader = None
+ahead_of (Some left) reader = Some (pulled reader ++ left)
+
+-- A byte was taken, or none where none was ahead.
+abbrev pub Takes : Option (List ℕ) → Option (List ℕ) → Option ℕ → Type 0
+Takes before after None = Keeps before after × IsAtEnd after
+Takes before after (Some byte) = Consumes before after (byte ∷ [])
+
+-- What a line took beside its bytes.
+abbrev pub end_of : Line → List ℕ
+end_of Fed = 10 ∷ []
+end_of Cut = []
+end_of Ended = []
+
+-- A line has a byte where it is cut, and none where there is none; each line but the last ends by a line feed.
+abbrev pub IsEnd : Line → List ℕ → Option (List ℕ) → Type 0
+IsEnd Fed whole after = Unit {0}
+IsEnd Cut whole after = (0 < length whole) × IsAtEnd after
+IsEnd Ended whole after = (whole ≡ []) × IsAtEnd after
+
+-- A line was taken, without a line feed in it, of which the first 514 bytes are kept.
+pub record TakesLine (before after : Option (List ℕ)) (ended : Line) (kept : List ℕ) : Type 0 where
+  pub whole : List ℕ
+  pub one : All (λ byte. byte ≢ 10) whole
+  pub is : kept ≡ take 514 whole
+  pub taken : Consumes before after (whole ++ end_of ended)
+  pub end : IsEnd ended whole after
+
+-- The last line has a byte, or there is none.
+abbrev pub IsLast : Line → List ℕ → Type 0
+IsLast Fed kept = ⊥
+IsLast Cut kept = 0 < length kept
+IsLast Ended kept = kept ≡ []

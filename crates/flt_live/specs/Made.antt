@@ -1,0 +1,105 @@
+-- The steps of a life that were made one by one, each with its answer; all lists begin with the newest.
+use Rattle.std.specs.Prelude.{◌≡◌, List, [], ◌∷◌}
+use Rattle.flt_config.specs.declared.config.Config.{Config}
+use Rattle.flt_model.specs.Start.{Start}
+use Rattle.flt_model.specs.Answer.{answer}
+use Rattle.flt_model.specs.declared.call.Op.{Op}
+use Rattle.flt_model.specs.declared.call.Op.TheVariants as ops
+use Rattle.flt_flash.specs.declared.blocks.Blocks.{Ghosts}
+use Rattle.flt_store_model.specs.Holding.{Generation}
+use Rattle.flt_dcm.specs.Unit.{UnitView}
+use Rattle.flt_queue.specs.declared.job.QueueOp.{QueueOp}
+use Rattle.flt_queue.specs.declared.queue.JobQueue.{JobQueue}
+use Rattle.flt_queue.specs.Queue.{History, answer_q}
+use Rattle.flt_queue.specs.Stands as standing
+use Rattle.flt_step.specs.declared.step.Step.{Step}
+use Rattle.flt_store.specs.declared.store.Store.{Store}
+use Rattle.flt_life_model.specs.Actions.{action_of}
+use Rattle.flt_life_model.specs.Answers.{Told}
+use Rattle.flt_life_model.specs.Chain.{start_from}
+use Rattle.flt_life_model.specs.Journal.{Journal, entry, calls_of}
+use Rattle.flt_life_model.specs.Played.{IsGot}
+use Rattle.flt_life_model.specs.declared.action.Action.{Action}
+use Rattle.flt_life_model.specs.declared.action.Action.TheVariants as actions
+use Rattle.flt_life_model.specs.declared.answer.StepAnswer.TheVariants as answers
+use Rattle.flt_lives.specs.Living.{IsLiving, with_answer}
+use Rattle.flt_live.specs.Draining.{Drains}
+
+abbrev pub Made : Type 0
+Made = Step × Told
+
+-- The step arms nothing.
+abbrev pub IsNoArm : Action → Type 0
+IsNoArm (actions.Arm arm) = ⊥
+IsNoArm _ = Unit {0}
+
+-- The calls of a save: a snapshot, and then the number, if it was answered with one.
+abbrev pub with_save : Told → Journal → Journal
+with_save (answers.Saved number) before = entry 0 (ops.Saved number) ∷ entry 0 ops.Snapshot ∷ before
+with_save _ before = entry 0 ops.Snapshot ∷ before
+
+-- The calls of the status machine that a step with this answer adds.
+abbrev pub with_calls : Action → Told → Journal → Journal
+with_calls (actions.Call op) told before = entry 0 op ∷ before
+with_calls actions.Save told before = with_save told before
+with_calls _ told before = before
+
+-- The journal of the steps so far.
+abbrev pub journal_of : List Made → Journal
+journal_of [] = []
+journal_of (made ∷ earlier) = with_calls (action_of made.0) made.1 (journal_of earlier)
+
+-- The answers of the steps so far that touch the store.
+abbrev pub deeds_of : List Made → List Told
+deeds_of [] = []
+deeds_of (made ∷ earlier) = with_answer (action_of made.0) made.1 (deeds_of earlier)
+
+-- The answer is the machine's to a call behind these.
+abbrev pub IsReply : Start → Journal → Op → Told → Type 0
+IsReply start journal op (answers.Dem told) = told.reply ≡ answer start (calls_of journal) op
+IsReply start journal op _ = ⊥
+
+-- A save is answered with a number, or with why there is none.
+abbrev pub IsSave : Told → Type 0
+IsSave (answers.Saved number) = Unit {0}
+IsSave (answers.SaveFailed fault) = Unit {0}
+IsSave _ = ⊥
+
+-- The answer is the queue's to a call behind these.
+abbrev pub IsQueueReply : History → QueueOp → Told → Type 0
+IsQueueReply before op (answers.Queue told) = told.reply ≡ answer_q before op
+IsQueueReply before op _ = ⊥
+
+-- The answer tells how many jobs a drain wrote, and how many it could not write.
+abbrev pub IsDrain : History → Told → History → Type 0
+IsDrain before (answers.Drained written failed) after = Drains before written failed after
+IsDrain before _ after = ⊥
+
+-- The answer to a step behind these calls of both machines, and the calls of the queue behind it.
+abbrev pub IsAnswered : Start → Journal → History → Action → Told → History → Type 0
+IsAnswered start journal before (actions.Call op) told after = IsReply start journal op told × (after ≡ before)
+IsAnswered start journal before (actions.Queue op) told after = IsQueueReply before op told × (after ≡ op ∷ before)
+IsAnswered start journal before actions.Save told after = IsSave told × (after ≡ before)
+IsAnswered start journal before actions.Drain told after = IsDrain before told after
+IsAnswered start journal before (actions.Get block) told after = IsGot told × (after ≡ before)
+IsAnswered start journal before (actions.Arm arm) told after = ⊥
+
+-- Each step so far was answered so, and these are the calls of the queue.
+abbrev pub AreAnswered : Start → List Made → History → Type 0
+AreAnswered start [] jobs = jobs ≡ []
+AreAnswered start (made ∷ earlier) jobs =
+    (before : History) × AreAnswered start earlier before × IsAnswered start (journal_of earlier) before (action_of made.0) made.1 jobs
+
+module _ {B : Type 0} {b : Ghosts B} where
+  -- A life that began with this generation has made these steps: its machine stands for their calls, and so does its queue; the store
+  -- holds the generation that was acknowledged last, or one of a later save.
+  pub record IsMidway (c : Config) (first : Generation) (made : List Made) (unit : UnitView) (queue : JobQueue) (store : Store B b) : Type 0 where
+    pub jobs : History
+    pub living : IsLiving c first (journal_of made) (deeds_of made) unit store
+    pub queued : standing.Stands c.blocks jobs queue
+    pub answered : AreAnswered (start_from c first.state) made jobs
+
+  -- One step more was made, with this answer.
+  abbrev pub MakesStep : Config → Step → Told → (unit next_unit : UnitView) → (queue next_queue : JobQueue) → (store next_store : Store B b) → Type 0
+  MakesStep c step told unit next_unit queue next_queue store next_store = (first : Generation) (made : List Made)
+      → IsMidway c first made unit queue store → IsMidway c first ((step, told) ∷ made) next_unit next_queue next_store

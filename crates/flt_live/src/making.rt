@@ -1,0 +1,204 @@
+//! A step, made at once.
+ghost use Rattle.std.specs.Prelude.{◌≡◌, ◌∷◌, ◌<◌, ℕ, List};
+ghost use Rattle.flt_config.specs.Durable.{Fits};
+ghost use Rattle.flt_model.specs.Start.{Start, History as Calls};
+ghost use Rattle.flt_model.specs.Durable.{saved_after};
+ghost use Rattle.flt_model.specs.declared.call.Op.TheVariants as ops;
+ghost use Rattle.flt_dcm.specs.Unit.{Stands, UnitView};
+ghost use Rattle.flt_dcm.specs.Whole.{config_of, state_of};
+ghost use Rattle.flt_queue.specs.Queue.{History, IsJob};
+ghost use Rattle.flt_queue.specs.declared.job.QueueOp.TheVariants as queue_ops;
+ghost use Rattle.flt_queue.specs.Stands as queued;
+ghost use Rattle.flt_step.specs.declared.step.Step.{Step};
+ghost use Rattle.flt_store_model.specs.Holding.{Generation};
+ghost use Rattle.flt_store.specs.Store.{IsAlive, IsRunning};
+ghost use Rattle.flt_life_model.specs.Actions.{IsPossible, action_of};
+ghost use Rattle.flt_life_model.specs.Answers.{Told, told_with};
+ghost use Rattle.flt_life_model.specs.Journal.{Journal};
+ghost use Rattle.flt_life_model.specs.Played.{IsGot};
+ghost use Rattle.flt_lives.specs.Living.{IsLiving, IsUnderWay};
+ghost use Rattle.flt_live.specs.Draining.{Drains, IsJobTaken};
+ghost use Rattle.flt_live.specs.Made.{IsNoArm, IsSave, MakesStep, with_save};
+
+use arrayvec::ArrayVec;
+use flt_config::ValidConfig;
+use flt_dcm::{ReplyKind, Unit};
+use flt_flash::Blocks;
+use flt_life_model::{Action, Answer, StepAnswer};
+use flt_lives::Buffers;
+use flt_model::Op;
+use flt_queue::{Job, JobQueue, QueueOp, QueueReply, WAITING};
+use flt_store::Store;
+
+/// Takes the durable state.
+fn take_snapshot(unit: &mut Unit, buffers: &mut Buffers)
+    requires under_way { IsUnderWay (config_of unit.old) (state_of unit.old) }
+    ensures config { config_of unit.new ≡ config_of unit.old }
+    ensures under_way { IsUnderWay (config_of unit.old) (state_of unit.new) }
+    ensures stands { (life : Start) (past : Calls) → Stands life past (state_of unit.old) → Stands life (ops.Snapshot ∷ past) (state_of unit.new) }
+    ensures taken { (life : Start) (past : Calls) → Stands life past (state_of unit.old) → buffers.new.state ≡ saved_after life past }
+    ensures fits { Fits (config_of unit.old) buffers.new.state }
+{
+    unit.apply_into(&Op::Snapshot, &mut buffers.state, &mut buffers.response);
+}
+
+/// Saves the durable state.
+fn save<D: Blocks + Drop>(
+    unit: &mut Unit,
+    store: &mut Store<D>,
+    config: &ValidConfig,
+    buffers: &mut Buffers,
+) -> StepAnswer<ReplyKind>
+    requires same { config_of unit.old ≡ config.now }
+    requires under_way { IsUnderWay config.now (state_of unit.old) }
+    requires alive { IsAlive config.now store.old }
+    ensures config { config_of unit.new ≡ config_of unit.old }
+    ensures under_way { IsUnderWay config.now (state_of unit.new) }
+    ensures alive { IsAlive config.now store.new }
+    ensures living { (first : Generation) (journal : Journal) (told : List Told) (response : List ℕ)
+        → IsLiving config.now first journal told (state_of unit.old) store.old
+        → IsLiving config.now first (with_save (told_with response result) journal) (told_with response result ∷ told) (state_of unit.new) store.new }
+    ensures is { (response : List ℕ) → IsSave (told_with response result) }
+{
+    take_snapshot(unit, buffers);
+    match store.save(config, &buffers.state) {
+        Ok(generation) => {
+            unit.apply_into(
+                &Op::Saved { generation },
+                &mut buffers.state,
+                &mut buffers.response,
+            );
+            StepAnswer::Saved(generation)
+        }
+        Err(fault) => StepAnswer::SaveFailed(fault),
+    }
+}
+
+/// Reads an application block.
+fn get<D: Blocks + Drop>(
+    store: &mut Store<D>,
+    config: &ValidConfig,
+    block: u8,
+) -> StepAnswer<ReplyKind>
+    requires block { block < config.now.blocks }
+    requires alive { IsAlive config.now store.old }
+    ensures alive { IsAlive config.now store.new }
+    ensures living { (first : Generation) (journal : Journal) (told : List Told) (unit : UnitView) (response : List ℕ)
+        → IsLiving config.now first journal told unit store.old
+        → IsLiving config.now first journal (told_with response result ∷ told) unit store.new }
+    ensures is { (response : List ℕ) → IsGot (told_with response result) }
+{
+    let mut bytes = ArrayVec::new();
+    match store.get_block(block, &mut bytes) {
+        Ok(true) => StepAnswer::Bytes(bytes),
+        Ok(false) => StepAnswer::NoBlock,
+        Err(_) => StepAnswer::BlockFlash,
+    }
+}
+
+/// Writes a job, and notes what became of it: whether it was written.
+fn write_job<D: Blocks + Drop>(
+    queue: &mut JobQueue,
+    store: &mut Store<D>,
+    config: &ValidConfig,
+    job: &Job,
+) -> bool
+    requires blocks { queue.old.blocks ≡ config.now.blocks }
+    requires alive { IsAlive config.now store.old }
+    requires job { IsJob config.now.blocks job.now }
+    ensures blocks { queue.new.blocks ≡ queue.old.blocks }
+    ensures running { (held spare : Generation) → IsRunning config.now held spare store.old → IsRunning config.now held spare store.new }
+    ensures noted { (jobs : History) → queued.Stands config.now.blocks jobs queue.old
+        → queued.Stands config.now.blocks (queue_ops.Done job.now.block result ∷ jobs) queue.new }
+{
+    let written = store.put_block(job.block, &job.bytes).is_ok();
+    queue.apply(&QueueOp::Done {
+        block: job.block,
+        written,
+    });
+    written
+}
+
+/// Takes the next job, writes it, and notes what became of it: whether it was written, or nothing where no job waits.
+fn take_job<D: Blocks + Drop>(
+    queue: &mut JobQueue,
+    store: &mut Store<D>,
+    config: &ValidConfig,
+) -> Option<bool>
+    requires blocks { queue.old.blocks ≡ config.now.blocks }
+    requires alive { IsAlive config.now store.old }
+    ensures blocks { queue.new.blocks ≡ queue.old.blocks }
+    ensures running { (held spare : Generation) → IsRunning config.now held spare store.old → IsRunning config.now held spare store.new }
+    ensures taken { (jobs : History) → queued.Stands config.now.blocks jobs queue.old → IsJobTaken config.now.blocks jobs result queue.new }
+{
+    match queue.apply(&QueueOp::Take) {
+        QueueReply::Job(job) => Some(write_job(queue, store, config, &job)),
+        _ => None,
+    }
+}
+
+/// Takes jobs until none waits, at most 32, and writes them. It answers how many were written, and how many could not be.
+fn drain<D: Blocks + Drop>(
+    queue: &mut JobQueue,
+    store: &mut Store<D>,
+    config: &ValidConfig,
+) -> (u16, u16)
+    requires blocks { queue.old.blocks ≡ config.now.blocks }
+    requires alive { IsAlive config.now store.old }
+    ensures blocks { queue.new.blocks ≡ queue.old.blocks }
+    ensures running { (held spare : Generation) → IsRunning config.now held spare store.old → IsRunning config.now held spare store.new }
+    ensures drained { (jobs : History) → queued.Stands config.now.blocks jobs queue.old
+        → (after : History) × Drains jobs result.0 result.1 after × queued.Stands config.now.blocks after queue.new }
+{
+    let mut written: u16 = 0;
+    let mut failed: u16 = 0;
+    for _job in 0..WAITING {
+        let Some(was_written) = take_job(queue, store, config) else {
+            return (written, failed);
+        };
+        written += u16::from(was_written);
+        failed += u16::from(!was_written);
+    }
+    (written, failed)
+}
+
+/// Makes a step that arms nothing, and answers it. If the answer is a response, its bytes are among the buffers.
+pub(crate) fn make<D: Blocks + Drop>(
+    unit: &mut Unit,
+    queue: &mut JobQueue,
+    store: &mut Store<D>,
+    config: &ValidConfig,
+    buffers: &mut Buffers,
+    action: Action,
+) -> StepAnswer<ReplyKind>
+    requires same { config_of unit.old ≡ config.now }
+    requires under_way { IsUnderWay config.now (state_of unit.old) }
+    requires blocks { queue.old.blocks ≡ config.now.blocks }
+    requires alive { IsAlive config.now store.old }
+    requires possible { IsPossible config.now action }
+    requires no_arm { IsNoArm action }
+    ensures config { config_of unit.new ≡ config_of unit.old }
+    ensures under_way { IsUnderWay config.now (state_of unit.new) }
+    ensures blocks { queue.new.blocks ≡ queue.old.blocks }
+    ensures alive { IsAlive config.now store.new }
+    ensures made { (step : Step) → action_of step ≡ action → MakesStep config.now step (told_with buffers.new.response.items result)
+        (state_of unit.old) (state_of unit.new) queue.old queue.new store.old store.new }
+{
+    match action {
+        Action::Call(op) => {
+            let reply = unit.apply_into(&op, &mut buffers.state, &mut buffers.response);
+            StepAnswer::Dem(Answer { place: 0, reply })
+        }
+        Action::Queue(op) => {
+            let reply = queue.apply(&op);
+            StepAnswer::Queue(Answer { place: 0, reply })
+        }
+        Action::Save => save(unit, store, config, buffers),
+        Action::Drain => {
+            let (written, failed) = drain(queue, store, config);
+            StepAnswer::Drained { written, failed }
+        }
+        Action::Get(block) => get(store, config, block),
+        Action::Arm(_) => unreachable!(),
+    }
+}
