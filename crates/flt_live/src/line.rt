@@ -74,6 +74,7 @@ fn refusal_line(refusal: Refusal) -> &'static [u8]
 }
 
 /// What is to be done at a step.
+#[inline(always)]
 fn step_due(step: Step) -> Due
     ensures { result ≡ step_due step }
 {
@@ -85,6 +86,7 @@ fn step_due(step: Step) -> Due
 }
 
 /// What is to be done at a line with this text.
+#[inline(always)]
 fn due_of(alloc: Global, text: &[u8], config: &ValidConfig) -> Result<Due, StreamFault>
     ensures due { IfOk result (λ due. due ≡ due_at config.now text.now) }
     ensures possible { IfOk result (IsDueIn config.now) }
