@@ -1,7 +1,7 @@
 -- What an EEPROM in memory means.
-use Rattle.std.specs.Prelude.{◌-◌, [], ◌∷◌, map, take, length}
+use Rattle.std.specs.Prelude.{[], ◌∷◌, length}
 use Rattle.flt_flash.specs.State.{FlashState}
-use Rattle.flt_flash.specs.Boots.{one_sector}
+use Rattle.flt_flash.specs.Boots.{one_sector, boots_of, left_of}
 use Rattle.flt_flash.specs.Made.{arms_told}
 use Rattle.flt_flash.specs.Power.{PowerState, power_state}
 use Rattle.flt_ea.specs.declared.memory.EepromMem.{EepromMem}
@@ -16,8 +16,8 @@ state_of device = record {
   operations = device.power.operations;
   wear = [];
   bench = record {
-    boots = map one_sector (take device.boots_used device.boots.items);
-    boots_left = length device.boots.items - device.boots_used;
+    boots = boots_of one_sector device.boots;
+    boots_left = left_of device.boots;
     arms = arms_told device.arms;
     armed = length device.power.standing.items;
   };

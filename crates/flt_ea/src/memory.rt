@@ -6,13 +6,11 @@ ghost use Rattle.flt_flash.specs.Image.{sector_at, blank_page, ArePages};
 ghost use Rattle.flt_flash.specs.Arms.{IsProgrammedBy, told_with};
 ghost use Rattle.flt_flash.specs.Power.{first_power};
 ghost use Rattle.flt_ea.specs.State.{unit_at, written, in_units, first_units};
-ghost use Rattle.flt_flash.specs.Boots.{HaveRoom};
 
 use crate::Eeprom;
 use arrayvec::ArrayVec;
 use flt_flash::{
-    Arm, ArmMade, ArmsTold, FlashFailed, Power, SavedBoot, blank_pages, outcome, pages_of,
-    reserved_boots, write_page,
+    Arm, ArmMade, ArmsTold, Boots, FlashFailed, Power, blank_pages, outcome, pages_of, write_page,
 };
 use std::alloc::{AllocError, Global};
 
@@ -22,13 +20,10 @@ pub struct EepromMem {
     image: Vec<[u8; 32]>,
     power: Power,
     arms: ArmsTold,
-    boots: Vec<SavedBoot>,
-    boots_used: u16,
+    boots: Boots,
     ghost most: { length image.items < 65536 },
     ghost image_bytes: { ArePages image.items },
-    ghost boots_fit: { boots_used ≤ length boots.items },
-    ghost boots_number: { length boots.items < 65536 },
-    ghost boots_room: { HaveRoom (length image.items) boots.items },
+    ghost boots_size: { length boots.last.items ≡ length image.items },
 }
 
 impl EepromMem {
@@ -50,7 +45,7 @@ impl EepromMem {
         ensures power { IfOk result (λ device. power_of device ≡ first_power) }
     {
         let image = pages_of(alloc, &image)?;
-        let boots = reserved_boots(alloc, image.len(), boots)?;
+        let boots = Boots::reserved(alloc, image.len(), boots)?;
         Ok(EepromMem {
             image,
             power: Power {
@@ -61,7 +56,6 @@ impl EepromMem {
             },
             arms: ArmsTold::none(),
             boots,
-            boots_used: 0,
         })
     }
 
@@ -126,7 +120,7 @@ impl Eeprom for EepromMem {
     }
 
     fn boots_left(&self) -> u16 {
-        self.boots.len() as u16 - self.boots_used
+        self.boots.left()
     }
 
     fn armed(&self) -> u8 {
@@ -146,7 +140,7 @@ impl Eeprom for EepromMem {
         self.power.standing.push(in_units(arm));
         self.arms.take(ArmMade {
             arm,
-            boots: self.boots_used,
+            boots: self.boots.used(),
             faults: self.power.faults,
         });
     }
@@ -158,9 +152,7 @@ impl Eeprom for EepromMem {
         // The arms that stood stand.
         ensures power { power_of self.new ≡ record (power_of self.old) { is_off = false } }
     {
-        let faults = self.power.faults;
-        self.boots[self.boots_used as usize].save(faults, &self.image);
-        self.boots_used += 1;
+        self.boots.save(self.power.faults, &self.image, &[]);
         self.power.is_off = false;
     }
 }

@@ -8,3 +8,5 @@ pub mod CallsInARow
 pub mod Recounted
 pub mod TornTails
 pub mod Answering
+pub mod Changes
+pub mod Saved

@@ -1,15 +1,40 @@
 -- What the saved boots of a device in memory are.
-use Rattle.std.specs.Prelude.{◌≡◌, ◌<◌, ◌≤◌, ◌*◌, ℕ, List, [], ◌∷◌, take, drop, length, slice_index_or, vec_capacity}
+use Rattle.std.specs.Prelude.{◌≡◌, ◌-◌, ℕ, List, [], ◌∷◌, ◌++◌, map, take, drop, length, slice_index_or}
 use Rattle.flt_flash.specs.State.{PowerUp}
-use Rattle.flt_flash.specs.declared.boot.SavedBoot.{SavedBoot}
+use Rattle.flt_flash.specs.Changes.{blank_image, changed_by}
+use Rattle.flt_flash.specs.declared.boot.BootMark.{BootMark}
+use Rattle.flt_flash.specs.declared.boot.Boots.{Boots}
 
--- The boot that was saved of a device of one sector.
-abbrev pub one_sector : SavedBoot → PowerUp
-one_sector saved = record { faults = saved.faults; image = saved.pages.items ∷ [] }
+-- The pages of a device of one sector.
+abbrev pub one_sector : List (List ℕ) → List (List (List ℕ))
+one_sector pages = pages ∷ []
 
--- The boot that was saved of a device of two sectors of this many pages.
-abbrev pub two_sectors : ℕ → SavedBoot → PowerUp
-two_sectors pages saved = record { faults = saved.faults; image = take pages saved.pages.items ∷ drop pages saved.pages.items ∷ [] }
+-- The pages of a device of two sectors of this many pages.
+abbrev pub two_sectors : ℕ → List (List ℕ) → List (List (List ℕ))
+two_sectors many pages = take many pages ∷ drop many pages ∷ []
+
+-- The image that a power-up found: a blank one after the first of so many changes.
+abbrev pub pages_then : Boots → ℕ → List (List ℕ)
+pages_then boots changes = changed_by (blank_image (length boots.last.items)) (take changes boots.changes.items)
+
+-- A power-up of a device whose pages are divided so into sectors.
+abbrev pub boot_of : (List (List ℕ) → List (List (List ℕ))) → Boots → BootMark → PowerUp
+boot_of divided boots mark = record { faults = mark.faults; image = divided (pages_then boots mark.changes) }
+
+-- All of them.
+abbrev pub boots_of : (List (List ℕ) → List (List (List ℕ))) → Boots → List PowerUp
+boots_of divided boots = map (boot_of divided boots) boots.marks.items
+
+-- How many may still come.
+abbrev pub left_of : Boots → ℕ
+left_of boots = boots.most - length boots.marks.items
+
+-- One power-up more was saved, at this count of faults and of these pages.
+pub record AddsOne (faults : ℕ) (pages : List (List ℕ)) (before after : Boots) : Type 0 where
+  pub boots : (divided : List (List ℕ) → List (List (List ℕ)))
+      → boots_of divided after ≡ boots_of divided before ++ record { faults = faults; image = divided pages } ∷ []
+  pub left : left_of after ≡ left_of before - 1
+  pub size : length after.last.items ≡ length before.last.items
 
 -- No boot: no fault, and an image of no sectors.
 abbrev pub no_boot : PowerUp
@@ -18,15 +43,3 @@ no_boot = record { faults = 0; image = [] }
 -- The boot of this number in a list of boots, from 0.
 abbrev pub boot_at : List PowerUp → ℕ → PowerUp
 boot_at boots number = slice_index_or boots number no_boot
-
--- A saved boot has room for this many pages.
-abbrev pub HasRoom : ℕ → SavedBoot → Type 0
-HasRoom pages saved = pages ≤ vec_capacity saved.pages
-
--- Each saved boot has room for this many pages.
-abbrev pub HaveRoom : ℕ → List SavedBoot → Type 0
-HaveRoom pages saved = (k : ℕ) (d : SavedBoot) → k < length saved → HasRoom pages (slice_index_or saved k d)
-
--- Each saved boot holds two sectors of this many pages.
-abbrev pub HoldPages : ℕ → List SavedBoot → Type 0
-HoldPages pages saved = (k : ℕ) (d : SavedBoot) → k < length saved → length (slice_index_or saved k d).pages.items ≡ 2 * pages

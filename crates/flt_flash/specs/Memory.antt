@@ -1,8 +1,8 @@
 -- What a flash in memory means.
-use Rattle.std.specs.Prelude.{◌-◌, [], ◌∷◌, map, take, length}
+use Rattle.std.specs.Prelude.{[], ◌∷◌, length}
 use Rattle.flt_flash.specs.declared.memory.FlashMem.{FlashMem}
 use Rattle.flt_flash.specs.State.{FlashState}
-use Rattle.flt_flash.specs.Boots.{two_sectors}
+use Rattle.flt_flash.specs.Boots.{two_sectors, boots_of, left_of}
 use Rattle.flt_flash.specs.Made.{arms_told}
 use Rattle.flt_flash.specs.Power.{PowerState, power_state}
 
@@ -16,8 +16,8 @@ state_of flash = record {
   operations = flash.power.operations;
   wear = flash.first_wear ∷ flash.second_wear ∷ [];
   bench = record {
-    boots = map (two_sectors flash.pages) (take flash.boots_used flash.boots.items);
-    boots_left = length flash.boots.items - flash.boots_used;
+    boots = boots_of (two_sectors flash.pages) flash.boots;
+    boots_left = left_of flash.boots;
     arms = arms_told flash.arms;
     armed = length flash.power.standing.items;
   };

@@ -4,7 +4,7 @@
 //! It stands on no other crate of this repository. Drivers over a flash use `Flash` and `Bench`, with the state
 //! of `specs/State.antt`, which is to be read first; all layers above a driver use `Blocks`, with `specs/Blocks.antt`
 //! and `specs/Calls.antt`. `FlashMem` keeps `Flash` and `Bench`, and says exactly where it fails (`specs/Power.antt`).
-//! `Power`, `SavedBoot` and the calls on pages are the parts of any device in memory.
+//! `Power`, `Boots` and the calls on pages are the parts of any device in memory.
 #![tactic(auto)]
 
 mod arm;
@@ -20,7 +20,7 @@ pub mod worked;
 
 pub use arm::{Arm, ArmMade, Pattern};
 pub use blocks::{BlockFault, Blocks, Found, Refused, calls_follow};
-pub use boot::{SavedBoot, reserved_boots};
+pub use boot::{BootMark, Boots, PageChange};
 pub use flash::{Bench, Flash, FlashFailed};
 pub use laws::{counts_rise, erases_stand};
 pub use made::ArmsTold;

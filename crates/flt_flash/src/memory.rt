@@ -6,9 +6,8 @@ ghost use Rattle.flt_flash.specs.Tearing.{IsTornSector, IsTorn};
 ghost use Rattle.flt_flash.specs.Image.{page_at, sector_at, programmed, erased, blank_page, ArePages};
 ghost use Rattle.flt_flash.specs.Arms.{IsProgrammedBy, IsErasedBy, told_with};
 ghost use Rattle.flt_flash.specs.Power.{first_power};
-ghost use Rattle.flt_flash.specs.Boots.{HaveRoom, HoldPages, boot_at};
 
-use crate::boot::{SavedBoot, reserved_boots};
+use crate::boot::Boots;
 use crate::made::ArmsTold;
 use crate::pages::{blank_pages, clear_sector, outcome, pages_of, tear_sector, write_page};
 use crate::power::Power;
@@ -26,8 +25,7 @@ pub struct FlashMem {
     first_wear: u64,
     second_wear: u64,
     arms: ArmsTold,
-    boots: Vec<SavedBoot>,
-    boots_used: u16,
+    boots: Boots,
     ghost most: { pages < 65536 },
     ghost most_operations: { power.operations < 2 ^ 64 },
     ghost most_first_wear: { first_wear < 2 ^ 64 },
@@ -36,14 +34,12 @@ pub struct FlashMem {
     ghost second_size: { length second.items ≡ pages },
     ghost first_bytes: { ArePages first.items },
     ghost second_bytes: { ArePages second.items },
-    ghost boots_fit: { boots_used ≤ length boots.items },
-    ghost boots_number: { length boots.items < 65536 },
-    ghost boots_room: { HaveRoom (2 * pages) boots.items },
-    ghost boots_pages: { HoldPages pages (take boots_used boots.items) },
+    ghost boots_size: { length boots.last.items ≡ 2 * pages },
 }
 
 impl FlashMem {
     ghost use Rattle.flt_flash.specs.Memory.{state_of, power_of};
+    ghost use Rattle.flt_flash.specs.Boots.{boot_at};
 
     /// A blank flash of two sectors of 2 to 1,024 pages, whose power may come back `boots` times. The error means that memory ran out.
     pub fn blank(alloc: Global, pages: u16, boots: u16) -> Result<FlashMem, AllocError>
@@ -87,7 +83,7 @@ impl FlashMem {
         ensures state { IfOk result (λ flash. state_of flash ≡ first_state pages first.items second.items boots) }
         ensures power { IfOk result (λ flash. power_of flash ≡ first_power) }
     {
-        let boots = reserved_boots(alloc, 2 * pages as usize, boots)?;
+        let boots = Boots::reserved(alloc, 2 * pages as usize, boots)?;
         Ok(FlashMem {
             pages,
             first,
@@ -102,7 +98,6 @@ impl FlashMem {
             second_wear: 0,
             arms: ArmsTold::none(),
             boots,
-            boots_used: 0,
         })
     }
 
@@ -126,7 +121,11 @@ impl FlashMem {
         requires page { page < (state_of self.now).pages }
         ensures { result.now ≡ page_at (boot_at (state_of self.now).bench.boots boot).image sector page }
     {
-        self.boots[boot as usize].page(self.pages, sector, page)
+        if sector == 0 {
+            self.boots.page(boot, page as usize)
+        } else {
+            self.boots.page(boot, self.pages as usize + page as usize)
+        }
     }
 }
 
@@ -228,7 +227,7 @@ impl Bench for FlashMem {
     ghost use Rattle.flt_flash.specs.Memory.{state_of, power_of};
 
     fn boots_left(&self) -> u16 {
-        self.boots.len() as u16 - self.boots_used
+        self.boots.left()
     }
 
     fn armed(&self) -> u8 {
@@ -248,7 +247,7 @@ impl Bench for FlashMem {
         self.power.standing.push(arm);
         self.arms.take(ArmMade {
             arm,
-            boots: self.boots_used,
+            boots: self.boots.used(),
             faults: self.power.faults,
         });
     }
@@ -260,9 +259,8 @@ impl Bench for FlashMem {
         // The arms that stood stand.
         ensures power { power_of self.new ≡ record (power_of self.old) { is_off = false } }
     {
-        let faults = self.power.faults;
-        self.boots[self.boots_used as usize].save_two(faults, &self.first, &self.second);
-        self.boots_used += 1;
+        self.boots
+            .save(self.power.faults, &self.first, &self.second);
         self.power.is_off = false;
     }
 }

@@ -166,11 +166,21 @@ impl<M: Machine> Turn<M> {
     #[inline(always)]
     fn await_free(&self) {
         let shared = &self.table.shared;
+        if shared.peek(NEXT) > shared.peek(SERVED) {
+            self.yield_until_free();
+        }
+    }
+
+    /// Yields the processor until no ticket is out, but not for long.
+    #[cold]
+    #[inline(never)]
+    fn yield_until_free(&self) {
+        let shared = &self.table.shared;
         for _ in 0..YIELDS {
+            yield_now();
             if shared.peek(NEXT) <= shared.peek(SERVED) {
                 return;
             }
-            yield_now();
         }
     }
 
