@@ -14,7 +14,8 @@ use Rattle.flt_step.specs.declared.step.Step.{Step}
 use Rattle.flt_step.specs.declared.step.Step.TheVariants as step
 use Rattle.flt_script.specs.Laws.{LoadOfFour}
 use Rattle.flt_script.specs.Load.{load_config, next_number, load_number, load_step, load_lane, load_lanes, plain_parts, load_parts, load_life, shown_life}
-use Rattle.flt_step.specs.Part.{PartOf}
+use Rattle.flt_step.specs.declared.step.Part.TheVariants.{One}
+use Rattle.flt_step.specs.Part.{PartOf, part_of}
 use Rattle.flt_step.specs.Step.{is_step_in, is_lane_step, has_store_step, store_lanes, is_lane_in, is_part_in, are_parts_in, steps_of_part, steps_of, lanes_of_part, lanes_of, arms_of_part, arms_of, drain_count, drains_of_lane, drains_of_part, drains_of}
 use Rattle.flt_script.specs.Within.{marks_of, IsWithinLimits}
 
@@ -316,3 +317,8 @@ plain_more (first ∷ steps) s = let rest = plain_more steps s in ap (λ (more :
 pub load_of_four : LoadOfFour
 unfolding load_number load_lane
 load_of_four = record { numbers = refl; steps = refl }
+
+-- Steps by themselves, as they lie in memory.
+pub plain_of : (steps : List Step) → map part_of (map One steps) ≡ plain_parts steps
+plain_of [] = refl
+plain_of (step ∷ steps) = ap (λ parts. inl step ∷ parts) (plain_of steps)

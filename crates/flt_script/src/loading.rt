@@ -2,6 +2,8 @@ ghost use Rattle.std.specs.Prelude.{◌≡◌, ◌<◌, ◌≤◌, ◌++◌, IfO
 ghost use Rattle.std.specs.List.{flat_map};
 ghost use Rattle.flt_script.specs.Load.{load_event, load_config, plain_parts, next_number, load_report, load_step, load_lane, load_lanes, load_life, shown_life, load_script};
 ghost use Rattle.flt_step.specs.Part.{parts_of};
+ghost use Rattle.flt_step.specs.declared.step.Step.{Step};
+ghost use Rattle.flt_step.specs.declared.step.Part.TheVariants.{One};
 ghost use Rattle.flt_script.specs.Script.{content};
 
 use crate::script::Script;
@@ -91,19 +93,52 @@ fn load_step(lane: u32, number: u32) -> Step
     }
 }
 
+/// What stands in a list for a step.
+trait OfStep: Drop {
+    ghost of: { Step → Self };
+
+    fn of(step: Step) -> Self
+        ensures { result ≡ of step };
+}
+
+impl OfStep for Step {
+    ghost of = { λ step. step };
+
+    fn of(step: Step) -> Step {
+        step
+    }
+}
+
+impl OfStep for Part {
+    ghost of = { One };
+
+    fn of(step: Step) -> Part {
+        Part::One(step)
+    }
+}
+
+/// Adds what a lane reports.
+fn add_lane<T: OfStep>(list: &mut Vec<T>, count: u32, lane: u32) -> Result<(), AllocError>
+    requires { lane < 4 }
+    ensures { OnOk result (list.new.items ≡ list.old.items ++ map T.of (load_lane count lane count)) }
+{
+    let mut number = count;
+    for place in 0..count {
+        number = next_number(number);
+        if place % LOAD_LANES == lane {
+            list.push(T::of(load_step(lane, number)))?;
+        }
+    }
+    Ok(())
+}
+
 /// What a lane reports.
 fn load_lane(alloc: Global, count: u32, lane: u32) -> Result<Vec<Step>, AllocError>
     requires { lane < 4 }
     ensures { IfOk result (λ steps. steps.items ≡ load_lane count lane count) }
 {
     let mut steps = Vec::with_capacity(alloc, (count / LOAD_LANES) as usize + 1)?;
-    let mut number = count;
-    for place in 0..count {
-        number = next_number(number);
-        if place % LOAD_LANES == lane {
-            steps.push(load_step(lane, number))?;
-        }
-    }
+    add_lane(&mut steps, count, lane)?;
     Ok(steps)
 }
 
@@ -118,23 +153,13 @@ fn load_lanes(alloc: Global, count: u32) -> Result<Vec<Vec<Step>>, AllocError>
     Ok(lanes)
 }
 
-/// Adds the steps of a lane, each by itself.
-fn add_steps(life: &mut Vec<Part>, steps: Vec<Step>) -> Result<(), AllocError>
-    ensures { OnOk result (parts_of life.new.items ≡ parts_of life.old.items ++ plain_parts steps.items) }
+/// Adds what the lanes report, each report by itself, one lane's after the other's.
+fn add_lanes(life: &mut Vec<Part>, count: u32) -> Result<(), AllocError>
+    ensures { OnOk result (parts_of life.new.items ≡ parts_of life.old.items ++ flat_map plain_parts (load_lanes count)) }
 {
-    life.reserve(steps.len())?;
-    for step in steps {
-        life.push(Part::One(step))?;
-    }
-    Ok(())
-}
-
-/// Adds the steps of lanes, one lane's after the other's.
-fn add_lanes(life: &mut Vec<Part>, lanes: Vec<Vec<Step>>) -> Result<(), AllocError>
-    ensures { OnOk result (parts_of life.new.items ≡ parts_of life.old.items ++ flat_map plain_parts (map (λ lane. lane.items) lanes.items)) }
-{
-    for lane in lanes {
-        add_steps(life, lane)?;
+    life.reserve(count as usize + 1)?;
+    for lane in 0..LOAD_LANES {
+        add_lane(life, count, lane)?;
     }
     Ok(())
 }
@@ -145,11 +170,10 @@ fn load_life(alloc: Global, count: u32, lanes: bool) -> Result<Vec<Part>, AllocE
 {
     let mut life = Vec::new(alloc);
     life.push(Part::One(Step::Cycle { cycle: 0 }))?;
-    let reports = load_lanes(alloc, count)?;
     if lanes {
-        life.push(Part::Lanes(reports))?;
+        life.push(Part::Lanes(load_lanes(alloc, count)?))?;
     } else {
-        add_lanes(&mut life, reports)?;
+        add_lanes(&mut life, count)?;
     }
     life.push(Part::One(Step::Save))?;
     Ok(life)
