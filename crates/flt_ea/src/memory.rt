@@ -34,8 +34,7 @@ impl EepromMem {
         ensures state { IfOk result (λ device. state_of device ≡ first_units (replicate units blank_page) boots) }
         ensures power { IfOk result (λ device. power_of device ≡ first_power) }
     {
-        let image = blank_pages(alloc, units as usize)?;
-        Self::of(alloc, image, boots)
+        Self::made(alloc, blank_pages(alloc, units as usize)?, boots)
     }
 
     /// A device with these units, whose power may come back `boots` times. The error means that memory ran out.
@@ -44,7 +43,15 @@ impl EepromMem {
         ensures state { IfOk result (λ device. state_of device ≡ first_units image.items boots) }
         ensures power { IfOk result (λ device. power_of device ≡ first_power) }
     {
-        let image = pages_of(alloc, &image)?;
+        Self::made(alloc, pages_of(alloc, &image)?, boots)
+    }
+
+    fn made(alloc: Global, image: Vec<[u8; 32]>, boots: u16) -> Result<EepromMem, AllocError>
+        requires most { length image.items ≤ 65535 }
+        requires bytes { ArePages image.items }
+        ensures state { IfOk result (λ device. state_of device ≡ first_units image.items boots) }
+        ensures power { IfOk result (λ device. power_of device ≡ first_power) }
+    {
         let boots = Boots::reserved(alloc, image.len(), boots)?;
         Ok(EepromMem {
             image,

@@ -16,7 +16,7 @@ pub fn blank_pages(alloc: Global, pages: usize) -> Result<Vec<[u8; 32]>, AllocEr
     ensures items { IfOk result (λ made. made.items ≡ replicate pages blank_page) }
     ensures bytes { IfOk result (λ made. ArePages made.items) }
 {
-    let mut made = Vec::new(alloc);
+    let mut made = Vec::with_capacity(alloc, pages)?;
     for _page in 0..pages {
         made.push(BLANK_PAGE)?;
     }
