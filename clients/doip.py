@@ -27,6 +27,15 @@ from programs import ProgramError, Programs
 from script import TESTERS
 from wire import default_port
 
+
+def milliseconds(text: str) -> float:
+    """A pause of at most 5 s, in seconds."""
+    value = int(text)
+    if not 0 <= value <= 5000:
+        raise ValueError
+    return value / 1000
+
+
 def address(text: str) -> int:
     """A logical address of four hexadecimal digits at most."""
     value = int(text, 16)
@@ -59,6 +68,13 @@ def arguments_of(given: Sequence[str] | None) -> argparse.Namespace:
         default=[],
         metavar="ADDRESS",
         help="of A to D, at most four",
+    )
+    add(
+        "--pause",
+        type=milliseconds,
+        default=0.01,
+        metavar="MS",
+        help="from the acknowledge of a request to its response; 10 ms if not given",
     )
     add("--vin", default="FAULTMEM000000001", help="17 letters and digits")
     add("--answers", metavar="FILE", help="fixed answers for other services")
@@ -94,6 +110,7 @@ def serve(given: argparse.Namespace, stack: ExitStack) -> None:
         address=given.address,
         vin=given.vin.encode(),
         testers=tuple(given.testers),
+        pause_seconds=given.pause,
         port=given.port,
         car_port=given.car_port,
     )
