@@ -26,6 +26,7 @@ class Serving(InFolder):
             + ["--faultmem", str(live), *words, str(self.configuration)],
             stdout=subprocess.PIPE,
             text=True,
+            start_new_session=True,
         )
         self.addCleanup(self.end, process)
         assert process.stdout is not None

@@ -4,7 +4,9 @@ from __future__ import annotations
 
 import contextlib
 import io
+import os
 import random
+import signal
 import socket
 import struct
 import time
@@ -13,6 +15,7 @@ from dataclasses import dataclass, replace
 from pathlib import Path
 
 import ask
+import doip
 from capture import Names, exchanges_of
 from doip_capture import DoipCapture
 from ecu import Ecu, Records, Stamps, TableError, read_answers
@@ -320,6 +323,24 @@ class Diagnostics(OverTheEntity):
         tester.send(data + data)
         self.assertEqual(tester.kinds(4), [Kind.ACK, Kind.DIAGNOSTIC] * 2)
 
+    def test_a_response_comes_behind_its_pause(self) -> None:
+        """The acknowledge comes at once, and another tester is served meanwhile. What is sent behind
+        a response stays behind it, and the end of a connection waits for none."""
+        running = self.start(replace(FREE, pause_seconds=0.4))
+        tester, other = self.connect(running), self.connect(running, 0x0E81)
+        began = time.monotonic()
+        tester.send_request(b"\x3e\x00")
+        tester.send_request(b"\x3e\x80")
+        self.assertIsNone(tester.read_acknowledge())
+        other.send_request(b"\x3e\x80")
+        self.assertIsNone(other.read_acknowledge())
+        self.assertEqual(tester.read_response(), b"\x7e\x00")
+        self.assertGreaterEqual(time.monotonic() - began, 0.4)
+        self.assertIsNone(tester.read_acknowledge())
+        tester.send_request(b"\x3e\x00")
+        tester.socket.shutdown(socket.SHUT_WR)
+        self.assertEqual(tester.kinds(3), [Kind.ACK, Kind.DIAGNOSTIC, None])
+
     def test_four_testers_have_sessions_of_their_own(self) -> None:
         """A session and a hold belong to one source."""
         running = self.start()
@@ -583,6 +604,38 @@ class Program(Serving):
         self.assertIn("cycle 0\n", Path(files[0]).read_text(encoding="ascii"))
         self.assertIn(",cycle 0,taken\n", Path(files[1]).read_text(encoding="ascii"))
         self.assertGreater(Path(files[2]).stat().st_size, 500)
+
+
+    def test_an_interrupt_of_a_terminal_ends_it(self) -> None:
+        """A signal to all processes of its group ends it with status 0, behind a last answer."""
+        process, ports = self.start()
+        car = CarSide(ports[2])
+        self.assertEqual(car.ask("cycle 0"), "taken")
+        os.killpg(process.pid, signal.SIGINT)
+        self.assertEqual(process.wait(20), 0)
+        car.close()
+
+    def test_words_that_are_refused(self) -> None:
+        """Ports and addresses that are none, and files that are not there."""
+        name = str(self.configuration)
+        for words, status in (
+            ((), 2),
+            ((name, "--port", "65536"), 2),
+            ((name, "--car-port", "-1"), 2),
+            ((name, "--pause", "x"), 2),
+            ((name, "--vin", "1"), 2),
+            ((name, "--testers", "10"), 2),
+            ((name, "--testers", "E80", "E80"), 2),
+            ((f"{name}.none",), 69),
+            ((name, "--answers", f"{name}.none"), 69),
+            ((name, "--faultmem", f"{name}.none"), 69),
+        ):
+            with contextlib.redirect_stderr(io.StringIO()):
+                try:
+                    found: object = doip.main(words)
+                except SystemExit as end:
+                    found = end.code
+            self.assertEqual(found, status, words)
 
 
 class Streams(unittest.TestCase):
