@@ -40,8 +40,8 @@ def arguments_of(given: Sequence[str] | None) -> argparse.Namespace:
     """Reads the arguments."""
     parser = argparse.ArgumentParser(
         description="A DoIP entity on loopback in front of the live fault memory.",
-        epilog="The exit status is that of the live program, 70 if a signal ended it; 69 if something"
-        " cannot be started.",
+        epilog="The exit status is that of the live program, 70 if a signal ended it; 69 if"
+        " something cannot be started.",
     )
     add = parser.add_argument
     add("config", metavar="CONFIG", help="a file of configuration lines")
@@ -58,7 +58,12 @@ def arguments_of(given: Sequence[str] | None) -> argparse.Namespace:
         default=default_port() + 1,
         help="of the car's side; 0: any that is free",
     )
-    add("--address", type=logical_address, default=0x1000, help="the entity's logical address, hexadecimal")
+    add(
+        "--address",
+        type=logical_address,
+        default=0x1000,
+        help="the entity's logical address, hexadecimal",
+    )
     add(
         "--testers",
         type=logical_address,

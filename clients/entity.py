@@ -49,8 +49,8 @@ ON_UDP = frozenset(
 # of WWH-OBD.
 TESTER_ADDRESSES = range(0x0E00, 0x1000)
 ACTIVATION_KINDS = (0x00, 0x01)
-# The most sockets of each side, and the most bytes that wait for a peer that does not read: more than
-# the responses to all requests of one read.
+# The most sockets of each side, and the most bytes that wait for a peer that does not read: more
+# than the responses to all requests of one read.
 MOST_SOCKETS = 8
 MOST_WAITING = 1 << 20
 

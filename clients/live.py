@@ -106,8 +106,8 @@ class Live:
         self._patience = patience
         self._left = b""
         self._status: int | None = None
-        # In a session of its own: what a terminal sends to all is for this program alone, which ends
-        # the live one by the end of its input.
+        # In a session of its own: what a terminal sends to all is for this program alone, which
+        # ends the live one by the end of its input.
         self._process = subprocess.Popen(
             command, stdin=subprocess.PIPE, stdout=subprocess.PIPE, start_new_session=True
         )

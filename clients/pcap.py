@@ -373,7 +373,7 @@ class Sessions:
         self._file.flush()
 
     def close(self, stamp: int, tester_port: int, port: int) -> None:
-        """Writes the end of a connection, if anything was noted of it: its port may be used again."""
+        """Writes the end of a connection, if anything was noted of it. Its port may come again."""
         if (tester_port, True) not in self._next:
             return
         self._segment(stamp, tester_port, port, b"", True, FIN | ACK)
@@ -384,8 +384,10 @@ class Sessions:
             del self._next[tester_port, by_tester]
 
     def _open(self, stamp: int, tester_port: int, port: int) -> None:
-        """Writes the handshake. Each connection begins with other numbers, so that none is taken for
-        another one on the same port."""
+        """Writes the handshake.
+
+        Each connection begins with other numbers, so none is taken for another one of its port.
+        """
         for by_tester in (True, False):
             self._next[tester_port, by_tester] = self._first
         self._first = (self._first + FIRST_STEP) & 0xFFFFFFFF

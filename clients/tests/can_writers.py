@@ -7,6 +7,8 @@
 A frame is its time in microseconds, its identifier, and its bytes in hexadecimal digits.
 """
 
+from __future__ import annotations
+
 import json
 import sys
 
@@ -15,7 +17,7 @@ import can
 WRITERS = {"log": can.CanutilsLogWriter, "asc": can.ASCWriter}
 
 
-def main(path):
+def main(path: str) -> None:
     """Writes the log."""
     writer = WRITERS[path.rpartition(".")[2]](path)
     for at, (time, identifier, digits) in enumerate(json.load(sys.stdin)):

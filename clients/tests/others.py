@@ -129,8 +129,11 @@ def frame_of(row: str, port: int) -> Frame:
 
 
 def complaints(frames: list[Frame]) -> list[Frame]:
-    """The frames of which tshark complains. A request that is too short for its service is none of
-    them if its answer is negative: the tester sent it so."""
+    """The frames of which tshark complains.
+
+    A request that is too short for its service is none of them if its answer is negative: the
+    tester sent it so.
+    """
     found = []
     for at, it in enumerate(frames):
         answer = next(

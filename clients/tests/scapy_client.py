@@ -5,6 +5,8 @@
     scapy_client.py scan PORT    scans by UDS_Scanner
 """
 
+from __future__ import annotations
+
 import json
 import sys
 
@@ -23,18 +25,18 @@ SERVICES = [*range(0x10, 0x40), *range(0x83, 0x89)]
 RESET = bytes.fromhex("1101")
 
 
-def connected(port):
+def connected(port: int) -> UDS_DoIPSocket:
     """Returns a socket whose routing is activated."""
     return UDS_DoIPSocket("127.0.0.1", port=port, source_address=0x0E80)
 
 
-def asked(client, data):
+def asked(client: UDS_DoIPSocket, data: bytes) -> str | None:
     """Returns the answer to a request, in hexadecimal digits; none if none came."""
     answer = client.sr1(UDS(data), timeout=SECONDS, verbose=False)
     return None if answer is None else bytes(answer).hex()
 
 
-def ask(port):
+def ask(port: int) -> list[str | None]:
     """Returns the answers to the requests of standard input."""
     client = connected(port)
     try:
@@ -43,10 +45,10 @@ def ask(port):
         client.close()
 
 
-def scan(port):
+def scan(port: int) -> dict[str, object]:
     """Returns what the scanner asked in which state, and what was answered."""
 
-    def reset():
+    def reset() -> None:
         client = connected(port)
         asked(client, RESET)
         client.close()

@@ -324,8 +324,9 @@ class Diagnostics(OverTheEntity):
         self.assertEqual(tester.kinds(4), [Kind.ACK, Kind.DIAGNOSTIC] * 2)
 
     def test_a_response_comes_behind_its_pause(self) -> None:
-        """The acknowledge comes at once, and another tester is served meanwhile. What is sent behind
-        a response stays behind it, and the end of a connection waits for none."""
+        """The acknowledge comes at once, and another tester is served meanwhile. What is sent
+        behind a response stays behind it, and the end of a connection waits for none.
+        """
         running = self.start(replace(FREE, pause_seconds=0.4))
         tester, other = self.connect(running), self.connect(running, 0x0E81)
         began = time.monotonic()

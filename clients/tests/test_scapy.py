@@ -31,7 +31,7 @@ class Scapy(Serving):
         return json.loads(run_script(module, "scapy_client.py", [word, str(port)], given))
 
     def test_the_socket(self) -> None:
-        """Each answer to UDS_DoIPSocket is the one that is due; its capture is judged to be right."""
+        """Each answer to UDS_DoIPSocket is the one that is due; its capture is judged right."""
         python_with(UDS_DOIP)
         table, capture, journal = (self.folder / it for it in ("c.csv", "c.pcap", "j.script"))
         process, ports = self.start(
@@ -40,7 +40,7 @@ class Scapy(Serving):
         car = CarSide(ports[2])
         self.assertEqual([car.ask("cycle 0"), car.ask("fail 0")], ["taken", "taken"])
         car.close()
-        asked = ["1902ff", "1901ff", "1004", "1003", "8502", "3e00", "2701", "19", "14ffffff", "1902ff"]
+        asked = "1902ff 1901ff 1004 1003 8502 3e00 2701 19 14ffffff 1902ff".split()
         found = self.client(UDS_DOIP, "ask", ports[0], "".join(f"{it}\n" for it in asked))
         self.end(process)
         report = self.programs.run("run", journal.read_text(encoding="ascii")).text
@@ -75,7 +75,7 @@ class Scapy(Serving):
         return str(path)
 
     def test_the_scanner(self) -> None:
-        """UDS_Scanner finds services, sessions and an identifier, and each answer is the one due."""
+        """UDS_Scanner finds services, sessions and an identifier; each answer is the one due."""
         python_with(UDS_SCAN)
         table, journal = self.folder / "answers", self.folder / "j.script"
         capture = self.folder / "c.pcap"
