@@ -470,8 +470,9 @@ class BesideRun(OverTheEntity):
 
     def test_a_session(self) -> None:
         """The journal of the entity is run, and each answer compared with that of the report."""
-        requests = number(20, 500)
+        requests = number(180, 500)
         played = self.play(requests)
+        self.assertGreater(played.capture.count(HEADER.pack(2, 0xFD, 0, 0)[:2]), 500)
         report = self.programs.run("run", played.script)
         due = [
             row
