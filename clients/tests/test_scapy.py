@@ -55,11 +55,13 @@ class Scapy(Serving):
         self.assertGreaterEqual(int(verdict[1]), len(asked))
 
     def trace_of(self, port: int, capture: str, table: str) -> str:
-        """The trace of a capture."""
+        """The trace of a capture, of which only other services are to be told."""
         words = [str(self.configuration), capture, table, "--port", str(port)]
         with contextlib.redirect_stdout(io.StringIO()) as out:
-            with contextlib.redirect_stderr(io.StringIO()):
+            with contextlib.redirect_stderr(io.StringIO()) as told:
                 self.assertEqual(trace_of.main([*words, "--faultmem", self.wrapper()]), 0)
+        told_of = "1 requests of other services: their answers are not judged"
+        self.assertEqual(told.getvalue(), f"trace_of.py: {told_of}\n")
         return out.getvalue()
 
     def wrapper(self) -> str:
