@@ -17,7 +17,6 @@ from scapy.contrib.automotive.uds_scan import (
     UDS_RDBIEnumerator,
     UDS_Scanner,
     UDS_ServiceEnumerator,
-    UDS_TPEnumerator,
 )
 
 SECONDS = 5
@@ -25,9 +24,9 @@ SERVICES = [*range(0x10, 0x40), *range(0x83, 0x89)]
 RESET = bytes.fromhex("1101")
 
 
-def connected(port: int) -> UDS_DoIPSocket:
+def connected(port: int, source: int = 0x0E80) -> UDS_DoIPSocket:
     """Returns a socket whose routing is activated."""
-    return UDS_DoIPSocket("127.0.0.1", port=port, source_address=0x0E80)
+    return UDS_DoIPSocket("127.0.0.1", port=port, source_address=source)
 
 
 def asked(client: UDS_DoIPSocket, data: bytes) -> str | None:
@@ -49,18 +48,18 @@ def scan(port: int) -> dict[str, object]:
     """Returns what the scanner asked in which state, and what was answered."""
 
     def reset() -> None:
-        client = connected(port)
+        # Another tester, as the scanner's socket is still open.
+        client = connected(port, 0x0E81)
         asked(client, RESET)
         client.close()
 
     cases = {
         UDS_ServiceEnumerator: {"scan_range": SERVICES},
         UDS_DSCEnumerator: {
-            "scan_range": range(1, 8),
+            "scan_range": range(2, 8),
             "delay_state_change": 0,
             "overwrite_timeout": False,
         },
-        UDS_TPEnumerator: {},
         UDS_RDBIEnumerator: {"scan_range": range(0xF18E, 0xF192)},
     }
     words = {f"{case.__name__}_kwargs": {"timeout": SECONDS, **it} for case, it in cases.items()}
