@@ -5,8 +5,8 @@ if none is named), each with its sync, and without one.
 It makes the system's calls of `FileBytes` of flt_file, a write at its place and a sync of the data, since these take nearly all of the time:
 a program writes 32 bytes, an erase of a sector of 256 pages 8,192. The sync is that of the folder's disk; one in memory syncs nothing.
 """
+import argparse
 import os
-import sys
 import tempfile
 import time
 
@@ -28,10 +28,13 @@ def rate(file, size, does_sync, seconds):
     return made / (time.monotonic() - start)
 
 
-def main(words):
-    folder = words[0] if words else tempfile.gettempdir()
-    seconds = float(words[1]) if len(words) > 1 else 2.0
-    with tempfile.NamedTemporaryFile(dir=folder) as image:
+def main():
+    parser = argparse.ArgumentParser(description=__doc__, formatter_class=argparse.RawDescriptionHelpFormatter)
+    parser.add_argument("folder", metavar="FOLDER", nargs="?", default=tempfile.gettempdir(), help="where the file is made")
+    parser.add_argument("seconds", metavar="SECONDS", nargs="?", type=float, default=2.0, help="how long each rate is measured; 2 if not given")
+    given = parser.parse_args()
+    seconds = given.seconds
+    with tempfile.NamedTemporaryFile(dir=given.folder) as image:
         file = image.fileno()
         os.pwrite(file, b"\xff" * (2 * PAGES * PAGE), 0)
         os.fsync(file)
@@ -41,4 +44,4 @@ def main(words):
 
 
 if __name__ == "__main__":
-    main(sys.argv[1:])
+    main()

@@ -8,6 +8,7 @@ A processor second is one of user or system time. The kinds are: the proof of a 
 their build; its must-fail edits; and programs, which is what compiles, links and runs. The last second of a process is seen in part
 alone, so the row `not seen` has what the system counted beyond the samples.
 """
+import argparse
 import ctypes
 import os
 import re
@@ -158,11 +159,12 @@ def report(sums, counted, wall, last):
     print(f"Last line: {last}")
 
 
-def main(words):
-    every = 1.0
-    if words[:1] == ["--every"]:
-        every, words = float(words[1]), words[2:]
-    words = words[1:] if words[:1] == ["--"] else words
+def main():
+    parser = argparse.ArgumentParser(description=__doc__, formatter_class=argparse.RawDescriptionHelpFormatter)
+    parser.add_argument("--every", metavar="SECONDS", type=float, default=1.0, help="how long it waits between two looks; 1 if not given")
+    parser.add_argument("command", metavar="COMMAND", nargs=argparse.REMAINDER, help="what is run, with its words; rt ci if not given")
+    given = parser.parse_args()
+    every, words = given.every, given.command[given.command[:1] == ["--"] :]
     os.chdir(os.path.dirname(os.path.dirname(os.path.realpath(__file__))))
     # What outlives its parent stays below this process.
     ctypes.CDLL(None).prctl(SUBREAPER, 1, 0, 0, 0)
@@ -189,4 +191,4 @@ def main(words):
 
 
 if __name__ == "__main__":
-    sys.exit(main(sys.argv[1:]))
+    sys.exit(main())

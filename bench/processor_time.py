@@ -9,6 +9,7 @@ shortest run in microseconds, the fewest page faults, and the least peak memory 
 
 User and system time are added: many kernels know their sum exactly, and share it out by samples that miss a short run."""
 
+import argparse
 import os
 import sys
 from typing import List, Tuple
@@ -31,10 +32,13 @@ def cost(source: str, command: List[str]) -> Tuple[int, int, int]:
 
 def main() -> None:
     """Runs the programs in turn, and prints a line for each."""
-    if len(sys.argv) < 3:
-        sys.exit(__doc__)
-    source, programs, words = sys.argv[1], sys.argv[2].split(","), sys.argv[3:]
-    runs = [[cost(source, [program, *words]) for program in programs] for _ in range(RUNS)]
+    parser = argparse.ArgumentParser(description=__doc__, formatter_class=argparse.RawDescriptionHelpFormatter)
+    parser.add_argument("input", metavar="INPUT", help="the file that is the standard input of each run")
+    parser.add_argument("programs", metavar="PROGRAM[,OTHER]", help="the path of a program, or of two")
+    parser.add_argument("words", metavar="WORDS", nargs=argparse.REMAINDER, help="the words of each run")
+    given = parser.parse_args()
+    commands = [[program, *given.words] for program in given.programs.split(",")]
+    runs = [[cost(given.input, command) for command in commands] for _ in range(RUNS)]
     for its in zip(*runs):
         print(*(min(it) for it in zip(*its)))
 

@@ -6,10 +6,10 @@ It reads no log: a check keeps each part of a proof in a file of its own below t
 that part was done. One job makes the parts one after the other, so what lies between two files is what the later one took. Before it:
 `rm -rf crates/NAME/out/incremental` and, in crates/NAME, `rt check --jobs 1`. A part of a lemma file counts for the file.
 """
+import argparse
 import glob
 import os
 import re
-import sys
 
 # The parts of a function's proof: its steps as read from the code, the goals, the answers, and the proof put together.
 PARTS = ("Lts", "Tie", "Given", "Reads", "Layout", "Kinds", "Goals", "Answers", "Invariants", "Proof")
@@ -36,8 +36,10 @@ def seconds_of(folder, crate):
     return took
 
 
-def main(words):
-    count = int(words[0]) if words else 30
+def main():
+    parser = argparse.ArgumentParser(description=__doc__, formatter_class=argparse.RawDescriptionHelpFormatter)
+    parser.add_argument("count", metavar="COUNT", nargs="?", type=int, default=30, help="how many are printed; 30 if not given")
+    count = parser.parse_args().count
     os.chdir(os.path.dirname(os.path.dirname(os.path.realpath(__file__))))
     rows = []
     for folder in glob.glob("crates/*/out/incremental/*/"):
@@ -49,8 +51,7 @@ def main(words):
     for seconds, name, parts in sorted(rows, key=lambda row: -row[0])[:count]:
         most = sorted(parts, key=lambda part: -parts[part])[:2]
         print(f"| {seconds:.0f} | {name} | {', '.join(f'{part} {parts[part]:.0f}' for part in most)} |")
-    return 0
 
 
 if __name__ == "__main__":
-    sys.exit(main(sys.argv[1:]))
+    main()

@@ -23,6 +23,8 @@ from wire import (
     activation,
     default_port,
     diagnostic,
+    logical_address,
+    port_number,
 )
 from words import answer_in_words, hex_of
 
@@ -89,10 +91,12 @@ class Tester:
 
 def ask_entity(given: argparse.Namespace) -> None:
     """Sends the requests and prints them with their answers."""
+    requests = [bytes.fromhex(text) for text in given.line]
+    if not all(requests):
+        raise ValueError("a request has at least one byte")
     tester = Tester(given.port, given.source, given.seconds)
     try:
-        for text in given.line:
-            data = bytes.fromhex(text)
+        for data in requests:
             answer = tester.ask(data, given.wait)
             shown = "silent" if answer is None else hex_of(answer)
             print(f"{hex_of(data)} -> {shown}")
@@ -123,9 +127,9 @@ def main(arguments: Sequence[str] | None = None) -> int:
         "line", metavar="LINE", nargs="+", help="bytes of a request; with --car a step"
     )
     parser.add_argument("--car", action="store_true", help="the lines are steps of the car's side")
-    parser.add_argument("--port", type=int, default=default_port())
-    parser.add_argument("--car-port", type=int, default=default_port() + 1)
-    parser.add_argument("--source", type=lambda it: int(it, 16), default=0x0E80, help="hexadecimal")
+    parser.add_argument("--port", type=port_number, default=default_port())
+    parser.add_argument("--car-port", type=port_number, default=default_port() + 1)
+    parser.add_argument("--source", type=logical_address, default=0x0E80, help="hexadecimal")
     parser.add_argument(
         "--seconds", type=float, default=10.0, help="how long to wait for the entity"
     )

@@ -4,7 +4,8 @@
     config_of.py car.csv > car.cfg
     config_of.py --back car.cfg > car.csv
 
-The table is a CSV with a row for each event. A DTC is written as P0123-00 (SAE J2012) or as 012300.
+The table is a CSV, with commas or semicolons, with a row for each event. A DTC is written as
+P0123-00 (SAE J2012) or as 012300.
 The column `name` becomes a comment. Rows above the head may be `config,7`, `memory,4`, `blocks,0`
 and `flash,2,256`.
 """
@@ -73,11 +74,14 @@ def lines_of_table(text: str) -> list[str]:
     lines: list[str] = []
     head: list[str] | None = None
     events = 0
-    for row, cells in enumerate(csv.reader(io.StringIO(text)), 1):
+    delimiter = ";" if text.count(";") > text.count(",") else ","
+    for row, cells in enumerate(csv.reader(io.StringIO(text), delimiter=delimiter), 1):
         cells = [cell.strip() for cell in cells]
         if not any(cells) or cells[0].startswith("#"):
             continue
         if head is not None:
+            if any(cells[len(head) :]):
+                raise ConfigError(Cause.COLUMN, row, "there are more cells than columns")
             lines += lines_of_row(row, dict(zip(head, cells)), events)
             events += 1
         elif cells[0] in WHOLE:
@@ -91,8 +95,10 @@ def lines_of_table(text: str) -> list[str]:
 
 def checked_head(row: int, cells: list[str]) -> list[str]:
     """The names of the columns."""
+    while not cells[-1]:
+        cells.pop()
     for cell in cells:
-        if cell and cell not in COLUMNS:
+        if cell not in COLUMNS:
             raise ConfigError(Cause.COLUMN, row, f"'{cell}' is none of {', '.join(COLUMNS)}")
     if "dtc" not in cells or len(set(cells)) != len(cells):
         raise ConfigError(

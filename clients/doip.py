@@ -21,44 +21,63 @@ from typing import IO, Any
 
 import programs
 from ecu import Ecu, Records, Stamps, TableError, read_table
-from entity import Entity, Settings
+from entity import TESTER_ADDRESSES, Entity, Settings
 from live import Ended, Live, LiveError
 from programs import ProgramError, Programs
 from script import TESTERS
-from wire import default_port
+from wire import default_port, logical_address, port_number
 
-def address(text: str) -> int:
-    """A logical address of four hexadecimal digits at most."""
-    value = int(text, 16)
-    if not 0 <= value <= 0xFFFF:
+
+def milliseconds(text: str) -> float:
+    """A pause of at most 5 s, in seconds."""
+    value = int(text)
+    if not 0 <= value <= 5000:
         raise ValueError
-    return value
+    return value / 1000
 
 
 def arguments_of(given: Sequence[str] | None) -> argparse.Namespace:
     """Reads the arguments."""
     parser = argparse.ArgumentParser(
         description="A DoIP entity on loopback in front of the live fault memory.",
-        epilog="The exit status is that of the live program; 69 if something cannot be started.",
+        epilog="The exit status is that of the live program, 70 if a signal ended it; 69 if"
+        " something cannot be started.",
     )
     add = parser.add_argument
     add("config", metavar="CONFIG", help="a file of configuration lines")
     add("image", metavar="IMAGE", nargs="?", help="the file of the flash; none: in memory")
-    add("--port", type=int, default=default_port(), help="of TCP and UDP; 0: any that is free")
+    add(
+        "--port",
+        type=port_number,
+        default=default_port(),
+        help="of TCP and UDP; 0: any that is free",
+    )
     add(
         "--car-port",
-        type=int,
+        type=port_number,
         default=default_port() + 1,
         help="of the car's side; 0: any that is free",
     )
-    add("--address", type=address, default=0x1000, help="the entity's logical address, hexadecimal")
+    add(
+        "--address",
+        type=logical_address,
+        default=0x1000,
+        help="the entity's logical address, hexadecimal",
+    )
     add(
         "--testers",
-        type=address,
+        type=logical_address,
         nargs="+",
         default=[],
         metavar="ADDRESS",
         help="of A to D, at most four",
+    )
+    add(
+        "--pause",
+        type=milliseconds,
+        default=0.01,
+        metavar="MS",
+        help="from the acknowledge of a request to its response; 10 ms if not given",
     )
     add("--vin", default="FAULTMEM000000001", help="17 letters and digits")
     add("--answers", metavar="FILE", help="fixed answers for other services")
@@ -72,6 +91,8 @@ def arguments_of(given: Sequence[str] | None) -> argparse.Namespace:
         parser.error("a VIN has 17 letters and digits")
     if len(found.testers) > len(TESTERS) or len(set(found.testers)) != len(found.testers):
         parser.error("--testers takes four addresses at most, and none twice")
+    if any(it not in TESTER_ADDRESSES for it in found.testers):
+        parser.error("the addresses of testers are 0E00 to 0FFF")
     return found
 
 
@@ -94,6 +115,7 @@ def serve(given: argparse.Namespace, stack: ExitStack) -> None:
         address=given.address,
         vin=given.vin.encode(),
         testers=tuple(given.testers),
+        pause_seconds=given.pause,
         port=given.port,
         car_port=given.car_port,
     )

@@ -109,8 +109,8 @@ def main(arguments: Sequence[str] | None = None) -> int:
     """Prints the verdict, and what was due; the exit status is that of the audit."""
     parser = argparse.ArgumentParser(
         description="Judges a trace, and says what was due where an answer is wrong.",
-        epilog="Exit status: that of './faultmem audit'; 69 if a program cannot be run, 70 if what"
-        " was due cannot be said.",
+        epilog="Exit status: that of './faultmem audit'; 69 if TRACE cannot be read or a program"
+        " cannot be run, 70 if what was due cannot be said.",
     )
     parser.add_argument(
         "trace", metavar="TRACE", nargs="?", default="-", help="a file; none or -: standard input"

@@ -145,10 +145,11 @@ class Ecu:
     def request(self, tester: str, data: bytes) -> bytes | None:
         """Sends a tester's request and returns the answer; none where it is silent.
 
-        The fault memory is asked first, so its own services and S3 are never touched by the table.
-        A fixed answer is given where it refuses the service.
+        The ticks that are due are made before, by `advance`: none comes between the time at which a
+        request stands in a capture and the request. The fault memory is asked first, so its own
+        services and S3 are never touched by the table. A fixed answer is given where it refuses the
+        service.
         """
-        self.advance()
         answer = self._make(request_line(tester, data), by_car=False)
         response = None if answer in ("silent", "dark") else bytes.fromhex(answer)
         fixed = self._answers.get(data)

@@ -2,10 +2,12 @@
 
 from __future__ import annotations
 
+import math
 import selectors
 import socket
 import struct
 import time
+from collections import deque
 from collections.abc import Callable
 from dataclasses import dataclass, field
 from typing import BinaryIO
@@ -47,9 +49,10 @@ ON_UDP = frozenset(
 # of WWH-OBD.
 TESTER_ADDRESSES = range(0x0E00, 0x1000)
 ACTIVATION_KINDS = (0x00, 0x01)
-# The most sockets of each side, and the most bytes that wait for a peer that does not read.
+# The most sockets of each side, and the most bytes that wait for a peer that does not read: more
+# than the responses to all requests of one read.
 MOST_SOCKETS = 8
-MOST_WAITING = 1 << 18
+MOST_WAITING = 1 << 20
 
 
 @dataclass(frozen=True)
@@ -63,6 +66,8 @@ class Settings:
     sockets: int = len(TESTERS)
     port: int = PORT
     car_port: int = PORT + 1
+    # Between the acknowledge of a request and its response, as a controller takes to answer.
+    pause_seconds: float = 0.0
     alive_seconds: float = 0.5
     initial_seconds: float = 2.0
     idle_seconds: float = 300.0
@@ -84,13 +89,35 @@ class Peer:
     waiting: bytearray = field(default_factory=bytearray)
     closes: bool = False
 
+    def release(self, now: float) -> None:
+        """Has what was held until now wait to be written; nothing is held here."""
+
+    @property
+    def size(self) -> int:
+        """How many bytes are not written yet."""
+        return len(self.waiting)
+
 
 @dataclass(eq=False)
 class Tester(Peer):
-    """A connection of a tester; its source address once routing is activated."""
+    """A connection of a tester; its source address once routing is activated.
+
+    Responses are held until their time, and what is sent behind them with them.
+    """
 
     stream: Stream = field(default_factory=lambda: Stream(ON_TCP, MOST_BODY))
     source: int | None = None
+    held: deque[tuple[float, bytes]] = field(default_factory=deque)
+
+    def release(self, now: float) -> None:
+        """Has what was held until now wait to be written."""
+        while self.held and self.held[0][0] <= now:
+            self.waiting += self.held.popleft()[1]
+
+    @property
+    def size(self) -> int:
+        """How many bytes are not written yet."""
+        return len(self.waiting) + sum(len(data) for _, data in self.held)
 
 
 @dataclass(eq=False)
@@ -184,12 +211,13 @@ class Entity:
         now = self._clock()
         due = [it.until for it in self._waiting]
         due += [it.heard + self._limit(it) for it in self._limited()]
+        due += [it.held[0][0] for it in self._testers() if it.held]
         return max(0.0, min(due) - now) if due else None
 
     def _limited(self) -> list[Tester]:
         """The testers that may not be silent for long: none whose activation waits."""
-        held = [it.tester for it in self._waiting]
-        return [it for it in self._peers if isinstance(it, Tester) and it not in held]
+        asked = [it.tester for it in self._waiting]
+        return [it for it in self._testers() if it not in asked]
 
     def _limit(self, tester: Tester) -> float:
         """How long this connection may be silent."""
@@ -221,6 +249,9 @@ class Entity:
         except OSError:
             data = b""
         if not data:
+            peer.release(math.inf)
+            peer.closes = True
+            self._write(peer)
             self._drop(peer)
             return
         peer.heard = self._clock()
@@ -233,6 +264,7 @@ class Entity:
 
     def _write(self, peer: Peer) -> None:
         """Writes what waits for a peer; one that does not read, or is to be closed, is dropped."""
+        peer.release(self._clock())
         try:
             if peer.waiting:
                 del peer.waiting[: peer.socket.send(peer.waiting)]
@@ -241,7 +273,7 @@ class Entity:
         except OSError:
             self._drop(peer)
             return
-        if len(peer.waiting) > MOST_WAITING or (peer.closes and not peer.waiting):
+        if peer.size > MOST_WAITING or (peer.closes and not peer.size):
             self._drop(peer)
             return
         events = selectors.EVENT_READ | (selectors.EVENT_WRITE if peer.waiting else 0)
@@ -256,7 +288,7 @@ class Entity:
         peer.socket.close()
         self._waiting = [it for it in self._waiting if it.tester is not peer]
         if self._sessions and isinstance(peer, Tester):
-            self._sessions.forget(peer.port)
+            self._sessions.close(self._ecu.stamp(), peer.port, self.ports[0])
 
     def _close_all(self) -> None:
         """Closes each socket."""
@@ -343,14 +375,21 @@ class Entity:
             ports = (tester.port, self.ports[0])
             self._sessions.note(self._ecu.stamp(), *ports, message.encoded(), by_tester)
 
-    def _send(self, tester: Tester, message: Message) -> None:
-        """Has a message wait for the tester."""
+    def _send(self, tester: Tester, message: Message, pause: float = 0.0) -> None:
+        """Has a message wait for the tester; it goes behind this pause, and behind what is held."""
         self._note(tester, message, by_tester=False)
-        tester.waiting += message.encoded()
+        due = self._clock() + pause if pause else -math.inf
+        if tester.held:
+            due = max(due, tester.held[-1][0])
+        tester.held.append((due, message.encoded()))
+
+    def _testers(self) -> list[Tester]:
+        """The connections of testers."""
+        return [it for it in self._peers if isinstance(it, Tester)]
 
     def _activated(self) -> list[Tester]:
         """The connections whose routing is activated."""
-        return [it for it in self._peers if isinstance(it, Tester) and it.source is not None]
+        return [it for it in self._testers() if it.source is not None]
 
     def _activate(self, tester: Tester, body: bytes) -> None:
         """Answers a routing activation, or has it wait for alive checks."""
@@ -428,7 +467,8 @@ class Entity:
         response = self._ecu.request(self._letters[source], data)
         self._send(tester, acknowledged(target, source, None))
         if response is not None:
-            self._send(tester, diagnostic(target, source, response))
+            message = diagnostic(target, source, response)
+            self._send(tester, message, self._settings.pause_seconds)
 
     def _refusal(self, tester: Tester, source: int, target: int, data: bytes) -> Nack | None:
         """Why a diagnostic message is not passed on; none if it is."""

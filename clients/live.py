@@ -106,7 +106,11 @@ class Live:
         self._patience = patience
         self._left = b""
         self._status: int | None = None
-        self._process = subprocess.Popen(command, stdin=subprocess.PIPE, stdout=subprocess.PIPE)
+        # In a session of its own: what a terminal sends to all is for this program alone, which
+        # ends the live one by the end of its input.
+        self._process = subprocess.Popen(
+            command, stdin=subprocess.PIPE, stdout=subprocess.PIPE, start_new_session=True
+        )
         self.text = ""
         try:
             self.begins = self._begin(self._read_line())
@@ -292,6 +296,8 @@ def typed_lines(prompt: str) -> Iterable[str]:
             yield input(prompt)
         except EOFError:
             return
+        except KeyboardInterrupt:
+            print()
 
 
 def run_shell(live: Live, lines: Iterable[str]) -> None:

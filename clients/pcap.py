@@ -25,6 +25,8 @@ LINKS = {0: 4, RAW_IP: 0, 12: 0, 113: 16, 228: 0, 229: 0, 276: 20}
 # The most bytes of a stream that may wait for some that are missing.
 MOST_WAITING = 1 << 20
 SYN, FIN, ACK, PUSH = 0x02, 0x01, 0x10, 0x08
+# What lies between the first sequence numbers of connections that are written.
+FIRST_STEP = 1 << 24
 
 
 @dataclass(frozen=True)
@@ -359,6 +361,7 @@ class Sessions:
         """Begins the file."""
         self._file = file
         self._next: dict[tuple[int, bool], int] = {}
+        self._first = 0
         file.write(struct.pack("<IHHiIII", MICROSECONDS, 2, 4, 0, 0, 1 << 18, RAW_IP))
 
     def note(self, stamp: int, tester_port: int, port: int, data: bytes, by_tester: bool) -> None:
@@ -369,15 +372,25 @@ class Sessions:
             self._segment(stamp, tester_port, port, data[at : at + 1400], by_tester, PUSH | ACK)
         self._file.flush()
 
-    def forget(self, tester_port: int) -> None:
-        """Ends a connection: the port may be used again."""
+    def close(self, stamp: int, tester_port: int, port: int) -> None:
+        """Writes the end of a connection, if anything was noted of it. Its port may come again."""
+        if (tester_port, True) not in self._next:
+            return
+        self._segment(stamp, tester_port, port, b"", True, FIN | ACK)
+        self._segment(stamp, tester_port, port, b"", False, FIN | ACK)
+        self._segment(stamp, tester_port, port, b"", True, ACK)
+        self._file.flush()
         for by_tester in (True, False):
-            self._next.pop((tester_port, by_tester), None)
+            del self._next[tester_port, by_tester]
 
     def _open(self, stamp: int, tester_port: int, port: int) -> None:
-        """Writes the handshake."""
+        """Writes the handshake.
+
+        Each connection begins with other numbers, so none is taken for another one of its port.
+        """
         for by_tester in (True, False):
-            self._next[tester_port, by_tester] = 1
+            self._next[tester_port, by_tester] = self._first
+        self._first = (self._first + FIRST_STEP) & 0xFFFFFFFF
         self._segment(stamp, tester_port, port, b"", True, SYN)
         self._segment(stamp, tester_port, port, b"", False, SYN | ACK)
         self._segment(stamp, tester_port, port, b"", True, ACK)
@@ -389,8 +402,8 @@ class Sessions:
         ends = (self.TESTER, self.ENTITY) if by_tester else (self.ENTITY, self.TESTER)
         ports = (tester_port, port) if by_tester else (port, tester_port)
         sequence, other = self._next[tester_port, by_tester], self._next[tester_port, not by_tester]
-        if flags & SYN:
-            self._next[tester_port, by_tester] = sequence + 1
+        size = len(data) + bool(flags & (SYN | FIN))
+        self._next[tester_port, by_tester] = (sequence + size) & 0xFFFFFFFF
         acknowledged = other if flags & ACK else 0
         head = struct.pack("!HHIIBBHHH", *ports, sequence, acknowledged, 0x50, flags, 0xFFFF, 0, 0)
         pseudo = ends[0] + ends[1] + struct.pack("!HH", 6, len(head) + len(data))
@@ -398,7 +411,5 @@ class Sessions:
         whole = 20 + len(head) + len(data)
         outer = struct.pack("!BBHHHBBH", 0x45, 0, whole, 0, 0x4000, 64, 6, 0) + ends[0] + ends[1]
         outer = outer[:10] + struct.pack("!H", checksum(outer)) + outer[12:]
-        behind = self._next[tester_port, by_tester] + len(data)
-        self._next[tester_port, by_tester] = behind & 0xFFFFFFFF
         self._file.write(struct.pack("<IIII", *divmod(stamp, 1_000_000), whole, whole))
         self._file.write(outer + head + data)

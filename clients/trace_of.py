@@ -28,7 +28,7 @@ from capture import CaptureError, Exchange, Names, exchanges_of
 from doip_capture import DoipCapture
 from programs import ProgramError, Programs
 from script import MOST_STEPS, REQUEST, TESTERS, configuration_of, first_word, request_line
-from wire import PORT, default_port
+from wire import PORT, default_port, port_number
 from words import hex_of
 
 SECOND = 10**9
@@ -311,7 +311,7 @@ def arguments_of(given: Sequence[str] | None) -> argparse.Namespace:
     add("config", metavar="CONFIG", help="a file of configuration lines")
     add("capture", metavar="CAPTURE", help="pcap or pcapng of DoIP, candump's log, or ASC")
     add("monitors", metavar="MONITORS", help="a table with the columns time, call, answer")
-    add("--port", type=int, default=default_port(), help="the entity's port")
+    add("--port", type=port_number, default=default_port(), help="the entity's port")
     add("--entity", type=hexadecimal, help="its logical address, where there are several")
     add(
         "--request",

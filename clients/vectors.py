@@ -209,7 +209,7 @@ def main(arguments: Sequence[str] | None = None) -> int:
     """Writes the files."""
     parser = argparse.ArgumentParser(
         description="Writes the examples as test vectors, JSON and pcap.",
-        epilog="Exit status: 0 done, 2 there is no vector of a name.",
+        epilog="Exit status: 0 done, 2 there is no vector of a name, 4 a file cannot be written.",
     )
     parser.add_argument("folder", metavar="FOLDER", type=Path, help="for the files; it is made")
     parser.add_argument("names", metavar="NAME", nargs="*", help="these alone")
@@ -221,7 +221,12 @@ def main(arguments: Sequence[str] | None = None) -> int:
         print(f"vectors.py: there is no vector {', '.join(sorted(unknown))}", file=sys.stderr)
         return 2
     chosen = [it for it in vectors if not given.names or it.name in given.names]
-    print(f"{given.folder}: {write(chosen, given.folder)} vectors")
+    try:
+        count = write(chosen, given.folder)
+    except OSError as error:
+        print(f"vectors.py: {error}", file=sys.stderr)
+        return 4
+    print(f"{given.folder}: {count} vectors")
     return 0
 
 

@@ -119,7 +119,23 @@ class Message:
 def default_port() -> int:
     """The port where none is given: that of the standard, or that of the environment."""
     given = os.environ.get(VARIABLE, "")
-    return int(given) if given.isdecimal() else PORT
+    return int(given) if given.isdecimal() and int(given) < 65_535 else PORT
+
+
+def port_number(text: str) -> int:
+    """A port of an argument."""
+    value = int(text)
+    if not 0 <= value <= 65_535:
+        raise ValueError
+    return value
+
+
+def logical_address(text: str) -> int:
+    """A logical address of an argument: four hexadecimal digits at most."""
+    value = int(text, 16)
+    if not 0 <= value <= 0xFFFF:
+        raise ValueError
+    return value
 
 
 def diagnostic(source: int, target: int, data: bytes) -> Message:

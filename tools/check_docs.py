@@ -9,6 +9,7 @@ picture that docs/PICTURES.md says to be made by a command of clients/draw.py is
 `console`, which begin with `$ `, print what the page shows, where the programs that they name are built. The commands of a section (`## `) are
 run one behind the other, in one shell and in a folder of their own.
 """
+import argparse
 import glob
 import os
 import re
@@ -296,6 +297,7 @@ def wrong_places(page, text):
 
 
 def main():
+    argparse.ArgumentParser(description=__doc__, formatter_class=argparse.RawDescriptionHelpFormatter).parse_args()
     wrong = 0
     for page in sorted([f"{TOP}/README.md", TREE, *glob.glob(f"{TOP}/docs/*.md"), *glob.glob(f"{TOP}/tools/*.md"), *glob.glob(f"{TOP}/clients/*.md")]):
         text = text_of(page)

@@ -3,6 +3,7 @@
 from __future__ import annotations
 
 import contextlib
+import csv
 import io
 import random
 import unittest
@@ -34,6 +35,8 @@ WRONG = (
     ("name,prio\n", Cause.HEAD),
     ("dtc,dtc\n", Cause.HEAD),
     ("dtc,speed\n", Cause.COLUMN),
+    ("dtc,,prio\n", Cause.COLUMN),
+    ("dtc,prio\n012300,1,2\n", Cause.COLUMN),
     ("event,dtc\n1,012300\n", Cause.EVENT),
     ("dtc\nP0123\n", Cause.DTC),
     ("dtc,prio\n012300,high\n", Cause.NUMBER),
@@ -54,6 +57,13 @@ WRONG_LINES = (
 
 class Tables(unittest.TestCase):
     """Tables and lines."""
+
+    def test_semicolons_and_empty_columns(self) -> None:
+        """A table with semicolons, and with empty cells behind its columns, has the same lines."""
+        rows = list(csv.reader(io.StringIO(TABLE)))
+        out = io.StringIO()
+        csv.writer(out, delimiter=";").writerows([*row, "", ""] for row in rows)
+        self.assertEqual(programs.lines_of(lines_of_table(out.getvalue())), LINES)
 
     def test_a_table_becomes_lines(self) -> None:
         """And comes back with the same lines again."""

@@ -4,19 +4,20 @@ from __future__ import annotations
 
 import contextlib
 import io
+import os
 import random
-import shutil
 import signal
 import socket
 import struct
-import subprocess
-import sys
 import time
 import unittest
+from dataclasses import dataclass, replace
 from pathlib import Path
 
 import ask
 import doip
+from capture import Names, exchanges_of
+from doip_capture import DoipCapture
 from ecu import Ecu, Records, Stamps, TableError, read_answers
 from entity import MOST_SOCKETS, ON_UDP, Entity, Settings
 from live import Ended, Live
@@ -30,6 +31,8 @@ from tests.common import (
     some_request,
     with_stand_in,
 )
+from tests.others import Frame, capture_of_datagrams, complaints, frames_of_capture, tool
+from tests.serving import Serving
 from tests.tester import ENTITY, CarSide, Connection, Running, datagram
 from wire import HEADER, MOST_BODY, MOST_REQUEST, Activation, HeaderFault, Kind, Message, Nack
 from wire import Stream, diagnostic, of_datagram
@@ -108,6 +111,22 @@ class Identification(OverTheEntity):
             (Kind.IDENTIFICATION_BY_VIN, vin[::-1]),
         ):
             self.assertIsNone(datagram(running.ports[1], Message(kind, body).encoded(), 0.2))
+
+    def test_the_datagrams_are_dissected(self) -> None:
+        """tshark complains of none, and finds each kind."""
+        tool("tshark")
+        running = self.start()
+        datagrams = []
+        for kind, body in ((1, b""), (2, FREE.eid), (3, FREE.vin), (0x4001, b""), (0x4003, b"")):
+            asked = Message(Kind(kind), body).encoded()
+            answer = datagram(running.ports[1], asked)
+            assert answer is not None
+            datagrams += [(True, asked), (False, answer)]
+        port = running.ports[1]
+        frames = frames_of_capture(capture_of_datagrams(datagrams, port), port)
+        self.assertEqual(complaints(frames), [])
+        due = [1, 4, 2, 4, 3, 4, 0x4001, 0x4002, 0x4003, 0x4004]
+        self.assertEqual([it.kind for it in frames], due)
 
     def test_status_and_power_mode(self) -> None:
         """The entity says how many sockets it has, how many are activated, and that it is ready."""
@@ -216,8 +235,8 @@ class Activations(OverTheEntity):
         """Without an activation after its time, with one after another."""
         settings = Settings(port=0, car_port=0, initial_seconds=0.2, idle_seconds=0.6)
         running = self.start(settings)
-        never, activated = self.connect(running, activates=False), self.connect(running)
         began = time.monotonic()
+        never, activated = self.connect(running, activates=False), self.connect(running)
         self.assertIsNone(never.read())
         self.assertGreater(time.monotonic() - began, 0.1)
         self.assertIsNone(activated.read())
@@ -303,6 +322,25 @@ class Diagnostics(OverTheEntity):
         self.assertEqual(tester.read_response(), b"\x7e\x00")
         tester.send(data + data)
         self.assertEqual(tester.kinds(4), [Kind.ACK, Kind.DIAGNOSTIC] * 2)
+
+    def test_a_response_comes_behind_its_pause(self) -> None:
+        """The acknowledge comes at once, and another tester is served meanwhile. What is sent
+        behind a response stays behind it, and the end of a connection waits for none.
+        """
+        running = self.start(replace(FREE, pause_seconds=0.4))
+        tester, other = self.connect(running), self.connect(running, 0x0E81)
+        began = time.monotonic()
+        tester.send_request(b"\x3e\x00")
+        tester.send_request(b"\x3e\x80")
+        self.assertIsNone(tester.read_acknowledge())
+        other.send_request(b"\x3e\x80")
+        self.assertIsNone(other.read_acknowledge())
+        self.assertEqual(tester.read_response(), b"\x7e\x00")
+        self.assertGreaterEqual(time.monotonic() - began, 0.4)
+        self.assertIsNone(tester.read_acknowledge())
+        tester.send_request(b"\x3e\x00")
+        tester.socket.shutdown(socket.SHUT_WR)
+        self.assertEqual(tester.kinds(3), [Kind.ACK, Kind.DIAGNOSTIC, None])
 
     def test_four_testers_have_sessions_of_their_own(self) -> None:
         """A session and a hold belong to one source."""
@@ -396,11 +434,21 @@ class TimeAndTable(OverTheEntity):
                 read_answers(f"# a table\n\n{line}\n")
 
 
+@dataclass
+class Played:
+    """A session: the calls with their answers, its journal, its capture and the entity's port."""
+
+    given: list[tuple[str, str]]
+    script: str
+    capture: bytes
+    port: int
+
+
 class BesideRun(OverTheEntity):
     """A session by chance is, byte for byte, what `run` gives for the same calls."""
 
-    def test_a_session(self) -> None:
-        """The journal of the entity is run, and each answer compared with that of the report."""
+    def play(self, requests: int) -> Played:
+        """Plays a session of so many requests of four testers, with steps of the car between."""
         chance = random.Random(14229)
         journal, capture, clock = io.StringIO(), io.BytesIO(), Clock()
         text = "".join(f"{line}\n" for line in CONFIGURATION)
@@ -409,7 +457,7 @@ class BesideRun(OverTheEntity):
         testers = [self.connect(running, 0x0E80 + it) for it in range(4)]
         given: list[tuple[str, str]] = []
         frames = 0
-        while frames < number(20, 500):
+        while frames < requests:
             clock.now += chance.choice((0.0, 0.01, 0.5, 4.0))
             if chance.randrange(2):
                 line = chance.choice((some_monitor_call(chance), "save", "power"))
@@ -418,17 +466,80 @@ class BesideRun(OverTheEntity):
                 at, request = chance.randrange(4), some_request(chance)
                 given.append(self.asked(testers[at], "ABCD"[at], request))
                 frames += 1
-        script = journal.getvalue()
-        report = self.programs.run("run", script)
+        return Played(given, journal.getvalue(), capture.getvalue(), running.ports[0])
+
+    def test_a_session(self) -> None:
+        """The journal of the entity is run, and each answer compared with that of the report."""
+        requests = number(180, 500)
+        played = self.play(requests)
+        self.assertGreater(played.capture.count(HEADER.pack(2, 0xFD, 0, 0)[:2]), 500)
+        report = self.programs.run("run", played.script)
         due = [
             row
             for life in lives_of(report.text)
             for row in [("power", life.begins), *((it.call, it.answer) for it in life.calls)]
         ][1:]
         made = [row for row in due if not row[0].startswith("tick ")]
-        self.assertEqual([row for row in given if not row[0].startswith("tick ")], made)
-        self.assertEqual(script.count("\nt "), frames)
-        self.check_by_tshark(capture.getvalue(), running.ports[0])
+        self.assertEqual([row for row in played.given if not row[0].startswith("tick ")], made)
+        self.assertEqual(played.script.count("\nt "), requests)
+
+    def test_a_session_is_dissected(self) -> None:
+        """tshark complains of no frame, and finds each message and each service."""
+        tool("tshark")
+        played = self.play(number(60, 500))
+        self.check_dissected(played.capture, played.port)
+
+    def test_each_kind_of_message_is_dissected(self) -> None:
+        """The same of alive checks, refusals, messages of several segments, and a port again."""
+        tool("tshark")
+        capture, settings = io.BytesIO(), replace(FREE, alive_seconds=0.1)
+        running = self.start(settings, capture=capture)
+        first, second = self.connect(running), self.connect(running, activates=False)
+        self.assertIs(second.activate(), Activation.ACTIVATED)
+        self.assertEqual(first.kinds(2), [Kind.ALIVE_CHECK, None])
+        second.send(diagnostic(0x0E80, ENTITY + 1, b"\x3e\x00"))
+        self.assertIs(second.read_acknowledge(), Nack.UNKNOWN_TARGET)
+        self.assertEqual(second.ask(b"\x2e\xf1\x90" + bytes(4000)), bytes.fromhex("7F2E11"))
+        second.send(HEADER.pack(2, 0xFD, 0x1234, 3) + b"abc")
+        self.assertEqual(second.kinds(1), [Kind.HEADER_NACK])
+        second.send(Message(Kind.ALIVE, struct.pack("!H", 0x0E80)))
+        port = 0
+        for _ in range(3):
+            again = socket.socket()
+            # The end of a connection from this side is a reset, so that its port is free at once.
+            again.setsockopt(socket.SOL_SOCKET, socket.SO_LINGER, struct.pack("ii", 1, 0))
+            again.bind(("127.0.0.1", port))
+            again.connect(("127.0.0.1", running.ports[0]))
+            port = again.getsockname()[1]
+            tester = Connection.of_socket(again, 0x0E81)
+            self.assertIs(tester.activate(), Activation.ACTIVATED)
+            self.assertEqual(tester.ask(b"\x3e\x00"), b"\x7e\x00")
+            tester.close()
+        running.__exit__(None, None, None)
+        frames = self.check_dissected(capture.getvalue(), running.ports[0])
+        kinds = {Kind.HEADER_NACK, Kind.ACTIVATION, Kind.ACTIVATION_ANSWER, Kind.ALIVE_CHECK}
+        kinds |= {Kind.ALIVE, Kind.DIAGNOSTIC, Kind.ACK, Kind.NACK}
+        self.assertEqual({it.kind for it in frames if it.kind is not None}, kinds)
+
+    def check_dissected(self, capture: bytes, port: int) -> list[Frame]:
+        """Checks what tshark makes of a capture; returns the frames."""
+        frames = frames_of_capture(capture, port)
+        self.assertEqual(complaints(frames), [])
+        with_data = [it for it in frames if it.payload]
+        self.assertTrue(with_data)
+        for it in with_data:
+            # The first segments of a long message are full, and the last one has the whole.
+            self.assertTrue("doip" in it.protocols or len(it.payload) == 1400, it)
+        found = [it for it in frames if it.kind == Kind.DIAGNOSTIC]
+        sent = exchanges_of(DoipCapture(Names(), port, ENTITY).messages(capture))
+        for it in found:
+            self.assertIn("uds", it.protocols, it)
+        asked = [it.sid for it in found if it.target == ENTITY]
+        self.assertEqual(asked, [it.request.piece.data[0] & 0xBF for it in sent])
+        answered = [it.sid for it in found if not it.by_tester]
+        due = [it.answer.piece.data[0] & 0xBF for it in sent if it.answer]
+        self.assertEqual(sorted(answered), sorted(due))
+        return frames
 
     def asked(self, tester: Connection, letter: str, request: bytes) -> tuple[str, str]:
         """Sends a request; returns it as a step, with its answer as a report has it."""
@@ -450,17 +561,6 @@ class BesideRun(OverTheEntity):
         assert second[1] is not None and second[1].kind == Kind.ACTIVATION_ANSWER
         tester._got.insert(0, second[0])
         return False
-
-    def check_by_tshark(self, capture: bytes, port: int) -> None:
-        """Every frame is dissected without a complaint, where tshark is there."""
-        if shutil.which("tshark") is None:
-            return
-        file = self.folder / "session.pcap"
-        file.write_bytes(capture)
-        command = ["tshark", "-r", str(file), "-d", f"tcp.port=={port},doip"]
-        wrong = "_ws.malformed || tcp.analysis.flags || doip.nack_code || _ws.expert.severity >= 6"
-        ran = subprocess.run([*command, "-Y", wrong], capture_output=True, text=True, check=True)
-        self.assertEqual(ran.stdout, "")
 
 
 class SmallTester(OverTheEntity):
@@ -486,35 +586,8 @@ class SmallTester(OverTheEntity):
         self.assertEqual(self.asked(*ports, "--source", "1234", "3E 00"), (69, []))
 
 
-class Program(InFolder):
-    """The program itself, and clients of others where they are installed."""
-
-    def start(self, *words: str) -> tuple[subprocess.Popen[str], list[int]]:
-        """Starts doip.py over the stand-in; returns the process and the ports."""
-        live = self.folder / "live"
-        live.write_text(
-            f"#!/bin/sh\nexec {' '.join(self.programs.live)} \"$@\"\n", encoding="ascii"
-        )
-        live.chmod(0o755)
-        process = subprocess.Popen(
-            [sys.executable, str(Path(doip.__file__)), "--port", "0", "--car-port", "0"]
-            + ["--faultmem", str(live), *words, str(self.configuration)],
-            stdout=subprocess.PIPE,
-            text=True,
-        )
-        self.addCleanup(self.end, process)
-        assert process.stdout is not None
-        ready = process.stdout.readline().split()
-        self.assertEqual([ready[0], *ready[7:]], ["ready", "life", "1", "generation", "0"])
-        return process, [int(ready[at]) for at in (2, 4, 6)]
-
-    def end(self, process: subprocess.Popen[str]) -> None:
-        """Ends the process by its id."""
-        if process.poll() is None:
-            process.send_signal(signal.SIGTERM)
-        process.wait(20)
-        if process.stdout:
-            process.stdout.close()
+class Program(Serving):
+    """The program itself."""
 
     def test_it_serves_and_ends(self) -> None:
         """A session with files, and an end by a signal with status 0."""
@@ -534,25 +607,37 @@ class Program(InFolder):
         self.assertIn(",cycle 0,taken\n", Path(files[1]).read_text(encoding="ascii"))
         self.assertGreater(Path(files[2]).stat().st_size, 500)
 
-    def test_scapys_client(self) -> None:
-        """scapy's socket of DoIP activates, asks and is answered, service by service."""
-        try:
-            from scapy.contrib.automotive.doip import UDS_DoIPSocket
-            from scapy.contrib.automotive.uds import UDS, UDS_RDTCI
-        except ImportError:
-            self.skipTest("scapy is not installed")
-        _, ports = self.start()
-        client = UDS_DoIPSocket("127.0.0.1", port=ports[0], source_address=0x0E80)
-        self.addCleanup(client.close)
-        asked = UDS() / UDS_RDTCI(reportType=2, DTCStatusMask=0xFF)
-        answer = client.sr1(asked, timeout=2, verbose=False)
-        self.assertEqual(bytes(answer)[:3], bytes.fromhex("5902FF"))
-        services = []
-        for service in range(0x10, 0x3F):
-            answer = client.sr1(UDS(bytes([service, 0xFF])), timeout=2, verbose=False)
-            if bytes(answer) != bytes([0x7F, service, 0x11]):
-                services.append(service)
-        self.assertEqual(services, [0x10, 0x14, 0x19, 0x3E])
+
+    def test_an_interrupt_of_a_terminal_ends_it(self) -> None:
+        """A signal to all processes of its group ends it with status 0, behind a last answer."""
+        process, ports = self.start()
+        car = CarSide(ports[2])
+        self.assertEqual(car.ask("cycle 0"), "taken")
+        os.killpg(process.pid, signal.SIGINT)
+        self.assertEqual(process.wait(20), 0)
+        car.close()
+
+    def test_words_that_are_refused(self) -> None:
+        """Ports and addresses that are none, and files that are not there."""
+        name = str(self.configuration)
+        for words, status in (
+            ((), 2),
+            ((name, "--port", "65536"), 2),
+            ((name, "--car-port", "-1"), 2),
+            ((name, "--pause", "x"), 2),
+            ((name, "--vin", "1"), 2),
+            ((name, "--testers", "10"), 2),
+            ((name, "--testers", "E80", "E80"), 2),
+            ((f"{name}.none",), 69),
+            ((name, "--answers", f"{name}.none"), 69),
+            ((name, "--faultmem", f"{name}.none"), 69),
+        ):
+            with contextlib.redirect_stderr(io.StringIO()):
+                try:
+                    found: object = doip.main(words)
+                except SystemExit as end:
+                    found = end.code
+            self.assertEqual(found, status, words)
 
 
 class Streams(unittest.TestCase):

@@ -3,9 +3,12 @@
 import glob
 import os
 import random
+import subprocess
+import tempfile
 import unittest
 from typing import Dict, Iterator, List, Optional, Tuple
 
+from tests.others import tool
 from tests.drawn import DATA, FAULTMEM, made, needs_faultmem, random_report
 from drawing.program import Program
 from drawing.report import Report, report_of
@@ -35,6 +38,32 @@ def changes(text: str) -> Tuple[Dict[str, str], Iterator[Dict[str, str]]]:
                 now[names[short]] = value
 
     return names, values()
+
+
+def values_by_time(text: str) -> Dict[int, Dict[str, str]]:
+    """Returns the values of all variables at each time, by their names with their scopes."""
+    head, _, body = text.partition("$enddefinitions $end\n")
+    names: Dict[str, str] = {}
+    scopes: List[str] = []
+    for words in (line.split() for line in head.splitlines()):
+        if words[:1] == ["$scope"]:
+            scopes.append(words[2])
+        elif words[:1] == ["$upscope"]:
+            scopes.pop()
+        elif words[:1] == ["$var"]:
+            names[words[3]] = ".".join([*scopes, words[4]])
+    now: Dict[str, str] = {}
+    found: Dict[int, Dict[str, str]] = {}
+    time = 0
+    for line in body.splitlines():
+        if line.startswith("#"):
+            time = int(line[1:])
+        elif line and not line.startswith("$"):
+            value, short = line.split() if line[0] in "bs" else (line[0], line[1:])
+            digits = value[1:].lstrip("0") if value[0] == "b" and "x" not in value else value
+            now[names[short]] = "x" if "x" in digits and value[0] == "b" else digits
+        found[time] = dict(now)
+    return found
 
 
 def signed(value: str) -> Optional[int]:
@@ -74,6 +103,23 @@ class Vcd(unittest.TestCase):
     def test_any_report(self) -> None:
         for seed in range(12):
             self.check(random_report(random.Random(seed), 60, seed % 5))
+
+    def test_gtkwave_takes_the_file(self) -> None:
+        """vcd2fst of GTKWave reads a file, and what it makes of it has the same values."""
+        for program in ("vcd2fst", "fst2vcd"):
+            tool(program)
+        for seed in range(5):
+            text = vcd(random_report(random.Random(seed), 60, seed))
+            with tempfile.TemporaryDirectory() as folder:
+                names = [os.path.join(folder, it) for it in ("a.vcd", "a.fst", "b.vcd")]
+                with open(names[0], "w", encoding="ascii") as file:
+                    file.write(text)
+                for command in (["vcd2fst", *names[:2]], ["fst2vcd", "-o", names[2], names[1]]):
+                    ran = subprocess.run(command, capture_output=True, timeout=60, check=False)
+                    self.assertEqual(ran.returncode, 0, ran.stderr)
+                with open(names[2], encoding="ascii") as file:
+                    back = file.read()
+            self.assertEqual(values_by_time(back), values_by_time(text))
 
     def test_256_events(self) -> None:
         self.check(random_report(random.Random(5), 3, 256))

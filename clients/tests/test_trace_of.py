@@ -16,7 +16,8 @@ from due import DueError, judge
 from programs import Programs
 from script import Call, first_word
 from tests.common import CONFIGURATION, InFolder, number
-from tests.made import BEGIN, PORT, Session, as_asc, as_candump, as_pcap, some_session
+from tests.made import BEGIN, PORT, Session, as_asc, as_candump, as_pcap, can_frames, some_session
+from tests.others import python_with, run_script
 from trace_of import (
     Fault,
     Trace,
@@ -74,6 +75,22 @@ class Captures(InFolder):
                 )
             self.assertEqual([len(it) for it in texts.values()], [1, 1])
             self.assertGreater(due_calls, 20)
+
+    def test_logs_of_python_can(self) -> None:
+        """The logs of its writers, with identifiers of 11 and of 29 bits, give the same trace."""
+        python_with("can")
+        session = some_session(random.Random(11898), self.programs)
+        expected = trace_with_names(as_candump(session), session, WHERE, self.programs)[0].text()
+        for wide in (0, 0x18DA0000):
+            frames = [(time, wide + it, data.hex()) for time, it, data in can_frames(session)]
+            sides = [tuple(wide + it for it in side) for side in IDENTIFIERS]
+            # ASC counts its times from the first frame.
+            for kind, shift in (("log", 0), ("asc", frames[0][0] * 1000)):
+                path = self.folder / f"frames.{kind}"
+                run_script("can", "can_writers.py", [str(path)], json.dumps(frames))
+                where = Where(PORT, None, *sides, shift=shift)
+                made, _ = trace_with_names(path.read_bytes(), session, where, self.programs)
+                self.assertEqual(made.text(), expected)
 
     def test_one_byte_is_changed(self) -> None:
         """The audit says no at the place of the byte's call; or the byte is named as one that

@@ -5,8 +5,6 @@ from __future__ import annotations
 import contextlib
 import io
 import json
-import shutil
-import subprocess
 import tempfile
 import unittest
 from pathlib import Path
@@ -15,6 +13,8 @@ import vectors
 from capture import Names, exchanges_of
 from doip_capture import DoipCapture
 from script import lives_of
+from tests.common import number
+from tests.others import complaints, frames_of_capture, tool
 from vectors import example_vectors, json_object, packed_vectors, pcap_of, report_of
 
 
@@ -58,18 +58,24 @@ class Vectors(unittest.TestCase):
                 shown, [(it, "" if answer in ("silent", "dark") else answer) for it, answer in due]
             )
 
-    def test_wireshark_takes_the_capture(self) -> None:
-        """No frame is malformed, where tshark is there."""
-        if shutil.which("tshark") is None:
-            self.skipTest("tshark is not installed")
-        capture = pcap_of(next(it for it in example_vectors() if it.name == "testers"))
-        assert capture is not None
-        ran = subprocess.run(
-            [
-                "tshark", "-r", "-", "-Y", "_ws.malformed"
-            ], input=capture, capture_output=True, check=True
-        )
-        self.assertEqual(ran.stdout, b"")
+    def test_the_captures_are_dissected(self) -> None:
+        """tshark complains of no frame, and finds each request and each response."""
+        tool("tshark")
+        captures = [(it, pcap_of(it)) for it in example_vectors()]
+        for vector, capture in [it for it in captures if it[1]][: number(4, 100)]:
+            assert capture is not None
+            frames = frames_of_capture(capture)
+            self.assertEqual(complaints(frames), [], vector.name)
+            found = [it.sid for it in frames if "uds" in it.protocols]
+            calls = [it for life in lives_of(vector.report) for it in life.calls]
+            due = [
+                int(text[:2], 16) & 0xBF
+                for it in calls
+                if it.call.startswith("t ")
+                for text in (it.call[4:], it.answer)
+                if text not in ("silent", "dark")
+            ]
+            self.assertEqual(found, due, vector.name)
 
     def test_the_files(self) -> None:
         """A file for each, and an index; an unknown name is refused."""

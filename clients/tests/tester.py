@@ -69,6 +69,15 @@ class Connection:
         self._stream = Stream(ALL, 1 << 16)
         self._got: list[Message] = []
 
+    @classmethod
+    def of_socket(cls, connected: socket.socket, source: int) -> Connection:
+        """A connection over a socket that is connected."""
+        made = cls.__new__(cls)
+        made.source, made.socket = source, connected
+        made.socket.settimeout(SECONDS)
+        made._stream, made._got = Stream(ALL, 1 << 16), []
+        return made
+
     def close(self) -> None:
         """Closes the connection."""
         self.socket.close()
