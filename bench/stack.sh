@@ -27,6 +27,6 @@ low=4
 high=8192
 while [ $((high - low)) -gt 4 ]; do
     middle=$(((low + high) / 2))
-    if suffices "$middle"; then high=$middle; else low=$middle; fi
+    if suffices "$middle" 2>/dev/null; then high=$middle; else low=$middle; fi
 done
 echo "$high KB"
