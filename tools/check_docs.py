@@ -3,7 +3,7 @@
 
     check_docs.py [--long] [PAGE ..]      without --long the blocks `console long`, which prove something, are left out
 
-It looks at README.md, docs/, tools/, clients/ and crates/README.md, in whose tree each crate has a line. The table of docs/ARCHITECTURE.md has each place
+It looks at README.md, CHANGELOG.md, docs/, tools/, clients/ and crates/README.md, in whose tree each crate has a line. The table of docs/ARCHITECTURE.md has each place
 that names all kinds of steps of a script. Each name that a page says to stand in a crate, or in a file of its definitions, or that links to a
 file of code, stands there; each module of definitions is in the crate that is named beside it; each file that a page links or names by its path is there; each report that a page shows is what its script prints:
 of a script in crates/examples/data the report beside it has those lines, and a script in a page is run, where the program is built; each
@@ -386,8 +386,9 @@ def main(words: list[str]) -> int:
         print(__doc__)
         return 0
     with_long = "--long" in words
-    folders = ("docs", "tools", "clients")
-    all_pages = [f"{TOP}/README.md", f"{TOP}/CHANGELOG.md", TREE] + [it for folder in folders for it in glob.glob(f"{TOP}/{folder}/*.md")]
+    all_pages = [f"{TOP}/README.md", f"{TOP}/CHANGELOG.md", TREE]
+    for folder in ("docs", "tools", "clients"):
+        all_pages += glob.glob(f"{TOP}/{folder}/*.md")
     pages = [os.path.abspath(it) for it in words if it != "--long"] or sorted(all_pages)
     wrong = 0
     for page in pages:
