@@ -37,11 +37,15 @@ work=$(mktemp -d)
 trap 'rm -rf "$work"' EXIT
 trap 'exit 1' HUP INT TERM
 version=$(cat "$top/VERSION")
-name=faultmem-$version-$(uname -s | tr A-Z a-z)-$(uname -m)${unproved:+-unproved}
+name=faultmem-$version-$(uname -s | tr '[:upper:]' '[:lower:]')-$(uname -m)${unproved:+-unproved}
 root=$work/$name
 mkdir -p "$root/bin" "$root/crates"
 
-# The programs. Whether one is that of its sources the wrapper knows, which then tells nothing.
+# The programs. Whether one is that of its sources the wrapper knows, which then tells nothing. It is given no rt, so it builds none.
+mkdir "$work/no-rt"
+for it in awk cat cksum dirname find grep head ls mktemp readlink rm sed sort tail tr; do
+    ln -s "$(command -v "$it")" "$work/no-rt/$it"
+done
 for it in faultmem:check flt_inspect:trace faultmem_live:live; do
     program=${it%:*}
     if [ -n "$unproved" ]; then
@@ -50,7 +54,7 @@ for it in faultmem:check flt_inspect:trace faultmem_live:live; do
     fi
     set -- "${it#*:}"
     [ "$1" != live ] || set -- live "$top/crates/faultmem_live/data/config"
-    "$top/faultmem" "$@" </dev/null >/dev/null 2>"$work/told" || fail "$program does not run: $(head -n 1 "$work/told")"
+    PATH=$work/no-rt "$top/faultmem" "$@" </dev/null >/dev/null 2>"$work/told" || fail "$program does not run: $(head -n 1 "$work/told")"
     [ ! -s "$work/told" ] || fail "$program may be of other sources: $(head -n 1 "$work/told")"
     cp "$top/crates/$program/out/$program" "$root/bin/$program"
 done
@@ -70,7 +74,8 @@ cp "$top/faultmem" "$top/VERSION" "$top/README.md" "$top/CHANGELOG.md" "$root"
         echo "gate $last"
     fi
 } >"$root/RELEASE"
-(cd "$root" && find . -type f ! -name SHA256SUMS | LC_ALL=C sort | sed 's|^\./||' | xargs -d '\n' sha256sum >SHA256SUMS)
+(cd "$root" && find . -type f | LC_ALL=C sort | sed 's|^\./||' | xargs -d '\n' sha256sum) >"$work/sums"
+mv "$work/sums" "$root/SHA256SUMS"
 
 # The same files give the same archive.
 when=$(git -C "$top" log -1 --format=%ct 2>/dev/null || echo 0)
