@@ -1,27 +1,33 @@
 #!/bin/sh
 # Checks the archive of a release: tools/release.sh makes it into a new folder, and its programs answer there with the system's path alone.
-# It ends with 1 where something is wrong. Where the three programs are not built, those of ./faultmem try are taken, and where these are
-# not there either, or a command that makes the archive, nothing is checked.
+# It ends with 1 where something is wrong. Where the three programs are not built of these sources, those of ./faultmem try are taken, and
+# where these are not there either, or a command that makes the archive, nothing is checked.
 exec </dev/null
 top=$(unset CDPATH && cd -- "$(dirname -- "$0")/.." && pwd) || exit 1
 for it in tar gzip sha256sum; do
     command -v "$it" >/dev/null 2>&1 || { echo "release: the command $it is not there, so no archive is checked"; exit 0; }
 done
-are_there() {
-    [ -x "$top/crates/faultmem/out/$1" ] && [ -x "$top/crates/flt_inspect/out/$2" ] && [ -x "$top/crates/faultmem_live/out/$3" ]
-}
-unproved=
-if are_there faultmem flt_inspect faultmem_live; then
-    :
-elif are_there try try try; then
-    unproved=--unproved
-else
-    echo "release: the programs are not built, so no archive is checked"
-    exit 0
-fi
 work=$(mktemp -d) || exit 1
 trap 'rm -rf "$work"' EXIT
 trap 'exit 1' HUP INT TERM
+
+# Whether a program is built of the sources that are here: the wrapper then runs it without rt, and tells nothing.
+mkdir "$work/no-rt"
+for it in awk cat cksum dirname find grep head ls mktemp readlink rm sed sort tail tr; do
+    file=$(command -v "$it") && ln -s "$file" "$work/no-rt/$it"
+done
+is_built() {
+    PATH=$work/no-rt "$top/faultmem" "$@" </dev/null >/dev/null 2>"$work/told" && [ ! -s "$work/told" ]
+}
+unproved=
+if is_built check && is_built trace && is_built live "$top/crates/faultmem_live/data/config"; then
+    :
+elif [ -x "$top/crates/faultmem/out/try" ] && [ -x "$top/crates/flt_inspect/out/try" ] && [ -x "$top/crates/faultmem_live/out/try" ]; then
+    unproved=--unproved
+else
+    echo "release: the programs are not built of these sources, so no archive is checked"
+    exit 0
+fi
 rows=0
 wrong=0
 
