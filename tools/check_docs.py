@@ -275,6 +275,17 @@ def wrong_length(page: str, text: str):
         yield f"it has {len(text.split())} words, and {most} are allowed"
 
 
+def wrong_numbers(page: str, text: str):
+    """Numbers of README that the repository tells otherwise."""
+    if os.path.relpath(page, TOP) != "README.md":
+        return
+    crates = len(re.findall(r"^[a-z_]+[^#\n]*:", text_of(f"{TOP}/crates.txt"), re.M))
+    edits = len(glob.glob(f"{TOP}/crates/*/must-fail/*.edit"))
+    for count, what in ((crates, "crates"), (edits, "wrong edits")):
+        if f"{count} {what}" not in text:
+            yield f"the repository has {count} {what}"
+
+
 def wrong_quotations(text: str):
     """Blocks that are said to stand in a file, and do not."""
     for info, block in FENCED.findall(text):
@@ -365,6 +376,7 @@ def wrong_on(page: str, with_long: bool):
     """All that is wrong on a page."""
     text = text_of(page)
     yield from wrong_length(page, text)
+    yield from wrong_numbers(page, text)
     yield from wrong_names(text)
     yield from wrong_rows(text)
     yield from wrong_links(page, text)
