@@ -59,6 +59,8 @@ LIMITS = {"README.md": 900, "docs/PROVED.md": 1700, "docs/DECISIONS.md": 3500, "
 MOST_UNRUN = 12
 FENCED = re.compile(r"^```([^\n]*)\n(.*?)^```$", re.M | re.S)
 COMMAND = re.compile(r"(?:\$ |\./faultmem |rt [a-z]|(?:clients|tools|bench)/[a-z_]+\.(?:py|sh) |(?:cd|export|mkdir|printf|python3) )")
+# The commands of README's first table.
+BEGIN_WITH = re.compile(r"\| `((?:FAULTMEM=\S+ \S+ )?(?:\./faultmem|clients/)[^`]*)` \|$", re.M)
 TO_HEADING = re.compile(r"\]\(([^)#\s]*)#([^)\s]+)\)")
 
 
@@ -268,6 +270,26 @@ def wrong_commands(text, with_long=False):
                 yield f"'{command}' prints another text:\n{given}"
 
 
+def wrong_beginnings(page: str, text: str):
+    """Commands of README's first table that do not end with status 0, or, where they serve until they are ended, do not serve."""
+    if os.path.relpath(page, TOP) != "README.md":
+        return
+    commands = []
+    for command in BEGIN_WITH.findall(text):
+        # The check says by itself with which FAULTMEM.
+        bare = re.sub(r"^FAULTMEM=\S+ \S+ ", "", command)
+        serving = "{} > told.log & until grep -q ready told.log; do sleep 0.2; done; cut -d ' ' -f 1 told.log; kill $!"
+        ending = serving if "doip" in bare else "{} > told.log; echo $?"
+        commands.append((ending.format(bare), ["ready" if "doip" in bare else "0"]))
+    if len(commands) < 3:
+        yield "the first table has fewer than three commands"
+    wrapper = wrapper_for(commands)
+    printed = printed_by(commands, wrapper, free_port()) if wrapper else []
+    for (command, due), given in zip(commands, printed):
+        if given.strip() != due[0]:
+            yield f"'{command}' prints {given.strip()}, and not {due[0]}"
+
+
 def wrong_length(page: str, text: str):
     """A page that has more words than it may: words are what blanks divide."""
     most = LIMITS.get(os.path.relpath(page, TOP))
@@ -387,6 +409,7 @@ def wrong_on(page: str, with_long: bool):
     yield from wrong_blocks(text)
     yield from wrong_reports(text)
     yield from wrong_commands(text, with_long)
+    yield from wrong_beginnings(page, text)
     yield from wrong_pictures(text)
     yield from wrong_tree(page, text)
     yield from wrong_places(page, text)
