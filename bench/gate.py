@@ -9,6 +9,7 @@ A processor second is one of user or system time. The kinds are: the proof of a 
 their build; its must-fail edits; and programs, which is what compiles, links and runs. The last second of a process is seen in part
 alone, so the row `not seen` has what the system counted beyond the samples.
 """
+import argparse
 import ctypes
 import os
 import re
@@ -171,18 +172,15 @@ def page_of(table: str) -> str:
     return f"{head}\n\n{table}"
 
 
-def main(words):
-    every, writes = 1.0, False
-    if words[:1] in (["--help"], ["-h"]):
-        print(__doc__)
-        return 0
-    if words[:1] == ["--every"]:
-        every, words = float(words[1]), words[2:]
-    if words[:1] == ["--write"]:
-        writes, words = True, words[1:]
-        if words:
-            sys.exit("bench/gate.py: --write takes no command, since the page is of the whole gate")
-    words = words[1:] if words[:1] == ["--"] else words
+def main():
+    parser = argparse.ArgumentParser(description=__doc__, formatter_class=argparse.RawDescriptionHelpFormatter)
+    parser.add_argument("--every", metavar="SECONDS", type=float, default=1.0, help="how long it waits between two looks; 1 if not given")
+    parser.add_argument("--write", action="store_true", help="write docs/gate-table.md anew, if the gate passed")
+    parser.add_argument("command", metavar="COMMAND", nargs=argparse.REMAINDER, help="what is run, with its words; rt ci if not given")
+    given = parser.parse_args()
+    every, words = given.every, given.command[given.command[:1] == ["--"] :]
+    if given.write and words:
+        parser.error("--write takes no command, since the page is of the whole gate")
     os.chdir(os.path.dirname(os.path.dirname(os.path.realpath(__file__))))
     # What outlives its parent stays below this process.
     ctypes.CDLL(None).prctl(SUBREAPER, 1, 0, 0, 0)
@@ -206,7 +204,7 @@ def main(words):
     spent = resource.getrusage(resource.RUSAGE_CHILDREN)
     table = report(samples.sums(), spent.ru_utime + spent.ru_stime, time.monotonic() - began, last)
     print(table, end="")
-    if writes and status == 0:
+    if given.write and status == 0:
         page = page_of(table)
         with open(PAGE, "w", encoding="utf-8") as it:
             it.write(page)
@@ -214,4 +212,4 @@ def main(words):
 
 
 if __name__ == "__main__":
-    sys.exit(main(sys.argv[1:]))
+    sys.exit(main())

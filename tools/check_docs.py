@@ -1,8 +1,6 @@
 #!/usr/bin/env python3
 """Checks the pages of the repository, and ends with 1 where one is wrong.
 
-    check_docs.py [--long] [PAGE ..]      without --long the blocks `console long`, which prove something, are left out
-
 It looks at README.md, CHANGELOG.md, docs/, tools/, clients/ and crates/README.md, in whose tree each crate has a line. The table of docs/ARCHITECTURE.md has each place
 that names all kinds of steps of a script. Each name that a page says to stand in a crate, or in a file of its definitions, or that links to a
 file of code, stands there; each module of definitions is in the crate that is named beside it; each file that a page links or names by its path is there; each report that a page shows is what its script prints:
@@ -11,10 +9,11 @@ picture that docs/PICTURES.md says to be made by a command of clients/draw.py is
 `console`, which begin with `$ `, print what the page shows, where the programs that they name are built. The commands of a section (`## `) are
 run one behind the other, in one shell and in a folder of their own; a line that begins with `> ` goes on with the command above it.
 
-A page has at most the words of LIMITS. A block whose first line names a file of the repository, as ```rust crates/flt_io/src/lib.rt, is a
+Blocks `console long`, which prove something, are left out without --long. A page has at most the words of LIMITS. A block whose first line names a file of the repository, as ```rust crates/flt_io/src/lib.rt, is a
 quotation: its lines stand there, one behind the other. Commands stand in blocks `console` alone, and in the few blocks `sh`, which are
 not run: those of the gate and of measurements. A link to a heading leads to one.
 """
+import argparse
 import glob
 import os
 import re
@@ -415,19 +414,19 @@ def wrong_on(page: str, with_long: bool):
     yield from wrong_places(page, text)
 
 
-def main(words: list[str]) -> int:
+def main() -> int:
     """Checks the pages that are named, or all."""
-    if words[:1] in (["--help"], ["-h"]):
-        print(__doc__)
-        return 0
-    with_long = "--long" in words
+    parser = argparse.ArgumentParser(description=__doc__, formatter_class=argparse.RawDescriptionHelpFormatter)
+    parser.add_argument("--long", action="store_true", help="run the commands that prove something too")
+    parser.add_argument("pages", metavar="PAGE", nargs="*", help="the pages that are checked; all if none is given")
+    given = parser.parse_args()
     all_pages = [f"{TOP}/README.md", f"{TOP}/CHANGELOG.md", TREE]
     for folder in ("docs", "tools", "clients"):
         all_pages += glob.glob(f"{TOP}/{folder}/*.md")
-    pages = [os.path.abspath(it) for it in words if it != "--long"] or sorted(all_pages)
+    pages = [os.path.abspath(it) for it in given.pages] or sorted(all_pages)
     wrong = 0
     for page in pages:
-        for what in wrong_on(page, with_long):
+        for what in wrong_on(page, given.long):
             print(f"{os.path.relpath(page, TOP)}: {what}", flush=True)
             wrong += 1
     unrun = sum(info == "sh" for page in all_pages for info, _ in FENCED.findall(text_of(page)))
@@ -439,4 +438,4 @@ def main(words: list[str]) -> int:
 
 
 if __name__ == "__main__":
-    sys.exit(main(sys.argv[1:]))
+    sys.exit(main())
