@@ -1,9 +1,10 @@
 #!/usr/bin/env python3
 """What the gate costs: runs a command at the top of the repository and adds up the processor seconds of what it starts, by crate and kind.
 
-    bench/gate.py [--every SECONDS] [COMMAND ..]      the command is rt ci where none is given; a cd goes into sh -c '..'
+    bench/gate.py [--every SECONDS] [--write] [COMMAND ..]      the command is rt ci where none is given; a cd goes into sh -c '..'
 
-It looks at /proc once a second. The command's own lines go to standard error, and the table, in Markdown, to standard output.
+It looks at /proc once a second. The command's own lines go to standard error, and the table, in Markdown, to standard output. With
+--write, which takes no command, docs/gate-table.md is written anew with it, if the gate passed.
 A processor second is one of user or system time. The kinds are: the proof of a crate; its tests, which are a second check of the crate and
 their build; its must-fail edits; and programs, which is what compiles, links and runs. The last second of a process is seen in part
 alone, so the row `not seen` has what the system counted beyond the samples.
@@ -21,6 +22,7 @@ import time
 KINDS = ("proof", "tests", "edits", "programs")
 OTHERS = "rt and others"
 SUBREAPER = 36
+PAGE = "docs/gate-table.md"
 TICKS = os.sysconf("SC_CLK_TCK")
 
 
@@ -140,31 +142,45 @@ def longest_chain(sums):
     return max((chain(it) for it in below), key=lambda it: it[1], default=([], 0.0))
 
 
-def report(sums, counted, wall, last):
+def report(sums: dict[str, dict[str, float]], counted: float, wall: float, last: str) -> str:
+    """Returns the table, and the lines of what all of it came to."""
     totals = {name: sum(row.values()) for name, row in sums.items()}
-    print("| Crate | Proof | Tests | Edits | Programs | Seconds | Share |")
-    print("|---|---:|---:|---:|---:|---:|---:|")
+    lines = ["| Crate | Proof | Tests | Edits | Programs | Seconds | Share |", "|---|---:|---:|---:|---:|---:|---:|"]
     whole = max(counted, sum(totals.values()))
     for name in sorted(sums, key=lambda it: -totals[it]):
         cells = [f"{sums[name][kind]:.0f}" if sums[name][kind] else "" for kind in KINDS]
-        print(f"| {name} | {' | '.join(cells)} | {totals[name]:.0f} | {100 * totals[name] / whole:.1f} % |")
+        lines.append(f"| {name} | {' | '.join(cells)} | {totals[name]:.0f} | {100 * totals[name] / whole:.1f} % |")
     missed = whole - sum(totals.values())
-    print(f"| not seen | | | | | {missed:.0f} | {100 * missed / whole:.1f} % |")
+    lines.append(f"| not seen | | | | | {missed:.0f} | {100 * missed / whole:.1f} % |")
     kinds = {kind: sum(row[kind] for row in sums.values()) for kind in KINDS}
-    print(f"| **all** | {' | '.join(f'{kinds[kind]:.0f}' for kind in KINDS)} | {whole:.0f} | 100 % |")
-    print()
+    lines.append(f"| **all** | {' | '.join(f'{kinds[kind]:.0f}' for kind in KINDS)} | {whole:.0f} | 100 % |")
     chain, seconds = longest_chain(sums)
-    print(f"User and system: {whole / 60:.1f} processor minutes. Wall: {wall / 60:.1f} minutes, on {len(os.sched_getaffinity(0))} processors.")
-    print(f"The longest chain of proofs takes {seconds / 60:.1f} processor minutes: {', '.join(chain)}.")
-    print(f"Last line: {last}")
+    processors = len(os.sched_getaffinity(0))
+    lines += [
+        "",
+        f"User and system: {whole / 60:.1f} processor minutes. Wall: {wall / 60:.1f} minutes, on {processors} processors.",
+        f"The longest chain of proofs takes {seconds / 60:.1f} processor minutes: {', '.join(chain)}.",
+        f"Last line: {last}",
+    ]
+    return "".join(f"{line}\n" for line in lines)
+
+
+def page_of(table: str) -> str:
+    """Returns the page of the table."""
+    begin, _, _ = text_of(PAGE).partition("\n\n| ")
+    head = "\n\n".join(begin.split("\n\n")[:2])
+    return f"{head}\n\n{table}"
 
 
 def main():
     parser = argparse.ArgumentParser(description=__doc__, formatter_class=argparse.RawDescriptionHelpFormatter)
     parser.add_argument("--every", metavar="SECONDS", type=float, default=1.0, help="how long it waits between two looks; 1 if not given")
+    parser.add_argument("--write", action="store_true", help="write docs/gate-table.md anew, if the gate passed")
     parser.add_argument("command", metavar="COMMAND", nargs=argparse.REMAINDER, help="what is run, with its words; rt ci if not given")
     given = parser.parse_args()
     every, words = given.every, given.command[given.command[:1] == ["--"] :]
+    if given.write and words:
+        parser.error("--write takes no command, since the page is of the whole gate")
     os.chdir(os.path.dirname(os.path.dirname(os.path.realpath(__file__))))
     # What outlives its parent stays below this process.
     ctypes.CDLL(None).prctl(SUBREAPER, 1, 0, 0, 0)
@@ -186,7 +202,12 @@ def main():
     has_ended.set()
     watcher.join()
     spent = resource.getrusage(resource.RUSAGE_CHILDREN)
-    report(samples.sums(), spent.ru_utime + spent.ru_stime, time.monotonic() - began, last)
+    table = report(samples.sums(), spent.ru_utime + spent.ru_stime, time.monotonic() - began, last)
+    print(table, end="")
+    if given.write and status == 0:
+        page = page_of(table)
+        with open(PAGE, "w", encoding="utf-8") as it:
+            it.write(page)
     return status
 
 

@@ -1,13 +1,17 @@
 #!/usr/bin/env python3
 """Checks the pages of the repository, and ends with 1 where one is wrong.
 
-It looks at README.md, docs/, tools/, clients/ and crates/README.md, in whose tree each crate has a line. The table of docs/ARCHITECTURE.md has each place
+It looks at README.md, CHANGELOG.md, docs/, tools/, clients/ and crates/README.md, in whose tree each crate has a line. The table of docs/ARCHITECTURE.md has each place
 that names all kinds of steps of a script. Each name that a page says to stand in a crate, or in a file of its definitions, or that links to a
 file of code, stands there; each module of definitions is in the crate that is named beside it; each file that a page links or names by its path is there; each report that a page shows is what its script prints:
 of a script in crates/examples/data the report beside it has those lines, and a script in a page is run, where the program is built; each
 picture that docs/PICTURES.md says to be made by a command of clients/draw.py is what it prints, where the program that it runs is built; and the commands of a block
 `console`, which begin with `$ `, print what the page shows, where the programs that they name are built. The commands of a section (`## `) are
-run one behind the other, in one shell and in a folder of their own.
+run one behind the other, in one shell and in a folder of their own; a line that begins with `> ` goes on with the command above it.
+
+Blocks `console long`, which prove something, are left out without --long. A page has at most the words of LIMITS. A block whose first line names a file of the repository, as ```rust crates/flt_io/src/lib.rt, is a
+quotation: its lines stand there, one behind the other. Commands stand in blocks `console` alone, and in the few blocks `sh`, which are
+not run: those of the gate and of measurements. A link to a heading leads to one.
 """
 import argparse
 import glob
@@ -39,14 +43,24 @@ PATH = re.compile(r"`((?:crates|docs|bench|tools|clients)/[A-Za-z0-9_./-]*[A-Za-
 PICTURE = re.compile(r"`(docs/pictures/[a-z_0-9]+\.svg)` \| `clients/draw.py (timeline|sectors) ([^`]+)`")
 SCRIPT = re.compile(r"crates/examples/data/([a-z_0-9]+)\.script")
 CONSOLE = re.compile(r"^```console\n(.*?)^```$", re.M | re.S)
+CONSOLE_OR_LONG = re.compile(r"^```console(?: long)?\n(.*?)^```$", re.M | re.S)
 # Which words of a command need which program. What FAULTMEM names, if it is set, is taken to have them all.
 NEEDS = (
-    (re.compile(r"\./faultmem (?:try )?(?:inspect|trace|audit)\b|clients/(?:trace_of|due)\.py"), "flt_inspect"),
-    (re.compile(r"\./faultmem (?:try )?(?:run|ea|watch|check|load)\b|clients/(?:trace_of|due)\.py"), "faultmem"),
+    (re.compile(r"\./faultmem (?:try )?(?:inspect|trace|audit)\b|clients/(?:trace_of|due)\.py|clients/draw.py sectors"), "flt_inspect"),
+    (re.compile(r"\./faultmem (?:try )?(?:run|ea|watch|check|load)\b|clients/(?:trace_of|due)\.py|clients/draw.py (?:timeline|vcd)"), "faultmem"),
     (re.compile(r"\./faultmem (?:try )?live\b|clients/(?:live|doip)\.py"), "faultmem_live"),
 )
 MARK = "--- command"
 SECONDS = 180
+SECONDS_OF_LONG = 3600
+LIMITS = {"README.md": 900, "docs/PROVED.md": 1700, "docs/DECISIONS.md": 3500, "docs/GATE.md": 1200}
+# Blocks of commands that are not run, in all pages together.
+MOST_UNRUN = 12
+FENCED = re.compile(r"^```([^\n]*)\n(.*?)^```$", re.M | re.S)
+COMMAND = re.compile(r"(?:\$ |\./faultmem |rt [a-z]|(?:clients|tools|bench)/[a-z_]+\.(?:py|sh) |(?:cd|export|mkdir|printf|python3) )")
+# The commands of README's first table.
+BEGIN_WITH = re.compile(r"\| `((?:FAULTMEM=\S+ \S+ )?(?:\./faultmem|clients/)[^`]*)` \|$", re.M)
+TO_HEADING = re.compile(r"\]\(([^)#\s]*)#([^)\s]+)\)")
 
 
 def text_of(path):
@@ -143,13 +157,18 @@ def blocks_of(text):
             since.append(line)
 
 
+def without_info(text: str) -> str:
+    """The page without the fenced blocks that are said to be something, as `console` and quotations are."""
+    return FENCED.sub(lambda found: "" if found[1] else found[0], text)
+
+
 def has_lines(lines, wanted):
     return any(lines[at : at + len(wanted)] == wanted for at in range(len(lines) - len(wanted) + 1))
 
 
 def wrong_reports(text):
     script, name = None, None
-    for block, is_fenced, before in blocks_of(CONSOLE.sub("", text)):
+    for block, is_fenced, before in blocks_of(without_info(text)):
         if before.strip() and not is_fenced and re.search(r"^#", before, re.M):
             script, name = None, None
         named = SCRIPT.findall("\n".join([before] + block))
@@ -168,12 +187,14 @@ def wrong_reports(text):
                 yield f"{name}.script prints another report"
 
 
-def commands_of(section):
+def commands_of(section: str, with_long: bool) -> list[tuple[str, list[str]]]:
     """The commands of a section, each with the lines that are shown behind it."""
     found = []
-    for line in "".join(CONSOLE.findall(section)).split("\n")[:-1]:
+    for line in "".join((CONSOLE_OR_LONG if with_long else CONSOLE).findall(section)).split("\n")[:-1]:
         if line.startswith("$ "):
             found.append((line[2:], []))
+        elif found and not found[-1][1] and (line == ">" or line.startswith("> ")):
+            found[-1] = (f"{found[-1][0]}\n{line[2:]}", [])
         elif found:
             found[-1][1].append(line)
     return found
@@ -203,20 +224,21 @@ def free_port():
                 continue
 
 
-def printed_by(commands, wrapper, port):
+def printed_by(commands, wrapper, port, seconds=SECONDS):
     """What these commands print, each in a text of its own, run in a new folder that looks like the top of the repository."""
     script = "".join(f"echo; echo '{MARK}'\n{command}\n" for command, _ in commands)
     with tempfile.TemporaryDirectory() as folder:
-        for name in ("clients", "crates", "docs"):
+        for name in ("clients", "crates", "crates.txt", "docs", "tools"):
             os.symlink(f"{TOP}/{name}", f"{folder}/{name}")
         with open(f"{folder}/faultmem", "w", encoding="utf-8") as shim:
-            shim.write(f'#!/bin/sh\nexec {wrapper} "$@"\n')
+            # A page may say `try` itself.
+            shim.write(f'#!/bin/sh\n[ "$1" != try ] || shift\nexec {wrapper} "$@"\n')
         os.chmod(shim.name, 0o755)
         environment = {**os.environ, "FAULTMEM": wrapper, "DOIP_PORT": str(port)}
         with open(f"{folder}/told", "w", encoding="utf-8") as told, open(f"{folder}/printed", "w+", encoding="utf-8") as printed:
             shell = subprocess.Popen(["sh", "-c", script], cwd=folder, env=environment, stdin=subprocess.DEVNULL, stdout=printed, stderr=told, start_new_session=True)
             try:
-                shell.wait(SECONDS)
+                shell.wait(seconds)
             except subprocess.TimeoutExpired:
                 pass
             finally:
@@ -230,21 +252,96 @@ def printed_by(commands, wrapper, port):
             return printed.read().split(f"\n{MARK}\n")[1:]
 
 
-def wrong_commands(text):
+def wrong_commands(text, with_long=False):
     """Commands of a page that print something else than the page shows."""
     for section in re.split(r"^## ", text, flags=re.M):
-        commands = commands_of(section)
+        commands = commands_of(section, with_long)
         wrapper = wrapper_for(commands) if commands else None
         if wrapper is None:
             continue
         port = free_port()
-        printed = printed_by(commands, wrapper, port)
+        printed = printed_by(commands, wrapper, port, SECONDS_OF_LONG if with_long else SECONDS)
         for at, (command, shown) in enumerate(commands):
             due = "".join(f"{line}\n" for line in shown)
             given = printed[at] if at < len(printed) else "(nothing, since an earlier command did not end)"
             given = given.replace(str(port + 1), "13401").replace(str(port), "13400")
             if given.rstrip("\n") != due.rstrip("\n"):
                 yield f"'{command}' prints another text:\n{given}"
+
+
+def wrong_beginnings(page: str, text: str):
+    """Commands of README's first table that do not end with status 0, or, where they serve until they are ended, do not serve."""
+    if os.path.relpath(page, TOP) != "README.md":
+        return
+    commands = []
+    for command in BEGIN_WITH.findall(text):
+        # The check says by itself with which FAULTMEM.
+        bare = re.sub(r"^FAULTMEM=\S+ \S+ ", "", command)
+        serving = "{} > told.log & until grep -q ready told.log; do sleep 0.2; done; cut -d ' ' -f 1 told.log; kill $!"
+        ending = serving if "doip" in bare else "{} > told.log; echo $?"
+        commands.append((ending.format(bare), ["ready" if "doip" in bare else "0"]))
+    if len(commands) < 3:
+        yield "the first table has fewer than three commands"
+    wrapper = wrapper_for(commands)
+    printed = printed_by(commands, wrapper, free_port()) if wrapper else []
+    for (command, due), given in zip(commands, printed):
+        if given.strip() != due[0]:
+            yield f"'{command}' prints {given.strip()}, and not {due[0]}"
+
+
+def wrong_length(page: str, text: str):
+    """A page that has more words than it may: words are what blanks divide."""
+    most = LIMITS.get(os.path.relpath(page, TOP))
+    if most is not None and len(text.split()) > most:
+        yield f"it has {len(text.split())} words, and {most} are allowed"
+
+
+def wrong_numbers(page: str, text: str):
+    """Numbers of README that the repository tells otherwise."""
+    if os.path.relpath(page, TOP) != "README.md":
+        return
+    crates = len(re.findall(r"^[a-z_]+[^#\n]*:", text_of(f"{TOP}/crates.txt"), re.M))
+    edits = len(glob.glob(f"{TOP}/crates/*/must-fail/*.edit"))
+    for count, what in ((crates, "crates"), (edits, "wrong edits")):
+        if f"{count} {what}" not in text:
+            yield f"the repository has {count} {what}"
+
+
+def wrong_quotations(text: str):
+    """Blocks that are said to stand in a file, and do not."""
+    for info, block in FENCED.findall(text):
+        path = f"{TOP}/{info.split()[-1]}" if len(info.split()) == 2 else ""
+        if "/" not in info or not path:
+            continue
+        if not os.path.exists(path):
+            yield f"there is no {info.split()[-1]} to be quoted"
+        elif not has_lines(text_of(path).split("\n"), block.split("\n")[:-1]):
+            yield f"{info.split()[-1]} has other lines than are quoted: {block.split(chr(10))[0]}"
+
+
+def wrong_blocks(text: str):
+    """Commands in blocks that nobody runs."""
+    for info, block in FENCED.findall(text):
+        if info not in ("console", "console long", "sh") and any(COMMAND.match(line) for line in block.split("\n")):
+            yield f"a command stands in a block that is no `console`: {block.split(chr(10))[0]}"
+    for block, is_fenced, _ in blocks_of(FENCED.sub("", text)):
+        for line in block:
+            if COMMAND.match(line):
+                yield f"a command stands in a block that is no `console`: {line}"
+
+
+def headings_of(path: str) -> set[str]:
+    """The names by which links lead to the headings of a page."""
+    lines = re.findall(r"^#+ (.*)$", FENCED.sub("", text_of(path)), re.M)
+    return {re.sub(r"[^\w\- ]", "", line.lower()).replace(" ", "-") for line in lines}
+
+
+def wrong_headings(page: str, text: str):
+    """Links to headings that are not there."""
+    for link, heading in TO_HEADING.findall(text):
+        path = os.path.join(os.path.dirname(page), link) if link else page
+        if "://" not in link and path.endswith(".md") and os.path.exists(path) and heading not in headings_of(path):
+            yield f"{link} has no heading #{heading}"
 
 
 def wrong_pictures(text):
@@ -296,14 +393,46 @@ def wrong_places(page, text):
             yield f"{short} names all kinds of steps, and is not in the table"
 
 
-def main():
-    argparse.ArgumentParser(description=__doc__, formatter_class=argparse.RawDescriptionHelpFormatter).parse_args()
+def wrong_on(page: str, with_long: bool):
+    """All that is wrong on a page."""
+    text = text_of(page)
+    yield from wrong_length(page, text)
+    yield from wrong_numbers(page, text)
+    yield from wrong_names(text)
+    yield from wrong_rows(text)
+    yield from wrong_links(page, text)
+    yield from wrong_modules(text)
+    yield from missing_files(page, text)
+    yield from wrong_headings(page, text)
+    yield from wrong_quotations(text)
+    yield from wrong_blocks(text)
+    yield from wrong_reports(text)
+    yield from wrong_commands(text, with_long)
+    yield from wrong_beginnings(page, text)
+    yield from wrong_pictures(text)
+    yield from wrong_tree(page, text)
+    yield from wrong_places(page, text)
+
+
+def main() -> int:
+    """Checks the pages that are named, or all."""
+    parser = argparse.ArgumentParser(description=__doc__, formatter_class=argparse.RawDescriptionHelpFormatter)
+    parser.add_argument("--long", action="store_true", help="run the commands that prove something too")
+    parser.add_argument("pages", metavar="PAGE", nargs="*", help="the pages that are checked; all if none is given")
+    given = parser.parse_args()
+    all_pages = [f"{TOP}/README.md", f"{TOP}/CHANGELOG.md", TREE]
+    for folder in ("docs", "tools", "clients"):
+        all_pages += glob.glob(f"{TOP}/{folder}/*.md")
+    pages = [os.path.abspath(it) for it in given.pages] or sorted(all_pages)
     wrong = 0
-    for page in sorted([f"{TOP}/README.md", TREE, *glob.glob(f"{TOP}/docs/*.md"), *glob.glob(f"{TOP}/tools/*.md"), *glob.glob(f"{TOP}/clients/*.md")]):
-        text = text_of(page)
-        for what in [*wrong_names(text), *wrong_rows(text), *wrong_links(page, text), *wrong_modules(text), *missing_files(page, text), *wrong_reports(text), *wrong_commands(text), *wrong_pictures(text), *wrong_tree(page, text), *wrong_places(page, text)]:
-            print(f"{os.path.relpath(page, TOP)}: {what}")
+    for page in pages:
+        for what in wrong_on(page, given.long):
+            print(f"{os.path.relpath(page, TOP)}: {what}", flush=True)
             wrong += 1
+    unrun = sum(info == "sh" for page in all_pages for info, _ in FENCED.findall(text_of(page)))
+    if unrun > MOST_UNRUN:
+        print(f"the pages have {unrun} blocks of commands that are not run, and {MOST_UNRUN} are allowed")
+        wrong += 1
     print(f"pages: {'each is right' if not wrong else f'{wrong} faults'}")
     return 1 if wrong else 0
 
