@@ -1,0 +1,116 @@
+#!/usr/bin/env python3
+"""Tells which contracts are too long to be read aloud, and which words mean two things.
+
+A contract is what stands between the signature of a function and its body: its clauses, each a `requires` or an `ensures`. A function is
+told that has more than 10 clauses, or more than 900 characters in them. A word is told that two or more crates define, each for itself.
+
+With `--most FUNCTIONS WORDS` it ends with 1 if more of them are told than this, so that no change adds one.
+"""
+import argparse
+import collections
+import dataclasses
+import glob
+import os
+import re
+import sys
+
+TOP = os.path.dirname(os.path.dirname(os.path.abspath(__file__)))
+MOST_CLAUSES = 10
+MOST_CHARACTERS = 900
+FUNCTION = re.compile(r"^\s*(?:pub(?:\([a-z]+\))? )?fn ([a-z_0-9]+)", re.M)
+CLAUSE = re.compile(r"^\s*(?:requires|ensures)\b[^{\n]*\{", re.M)
+BODY = re.compile(r"^\s*\{|;\s*$|\{\}\s*$", re.M)
+DEFINED = re.compile(r"^(?:abbrev |unfoldable )?pub (?:record )?([A-Za-z_][A-Za-z_0-9]*)\b[^\n]*:", re.M)
+
+
+@dataclasses.dataclass
+class Contract:
+    """A function with its clauses."""
+
+    crate: str
+    path: str
+    name: str
+    clauses: list[str]
+
+    @property
+    def characters(self) -> int:
+        """How many characters the clauses have, without the spaces at the ends of lines."""
+        return sum(len(" ".join(clause.split())) for clause in self.clauses)
+
+    def is_long(self) -> bool:
+        """Whether it is told."""
+        return len(self.clauses) > MOST_CLAUSES or self.characters > MOST_CHARACTERS
+
+
+def closed(text: str, begin: int) -> int:
+    """Returns where the brace that opens at `begin` is closed, behind it."""
+    depth = 0
+    for at in range(begin, len(text)):
+        depth += {"{": 1, "}": -1}.get(text[at], 0)
+        if depth == 0:
+            return at + 1
+    return len(text)
+
+
+def clauses_from(text: str, begin: int, end: int) -> list[str]:
+    """Returns the clauses between the signature that begins here and the body, or the end of a function that a trait declares."""
+    found: list[str] = []
+    at = begin
+    while True:
+        clause = CLAUSE.search(text, at, end)
+        body = BODY.search(text, at, end)
+        if clause is None or (body is not None and body.start() < clause.start()):
+            return found
+        at = closed(text, clause.end() - 1)
+        found.append(text[clause.start():at])
+
+
+def contracts_of(crate: str, path: str) -> list[Contract]:
+    """Returns the contracts of a file."""
+    with open(path, encoding="utf-8") as it:
+        text = it.read()
+    begins = [match for match in FUNCTION.finditer(text)]
+    ends = [match.start() for match in begins[1:]] + [len(text)]
+    return [Contract(crate, path, match[1], clauses_from(text, match.end(), end)) for match, end in zip(begins, ends)]
+
+
+def crates() -> list[str]:
+    """Returns the names of the crates, in their order."""
+    return sorted(os.path.basename(path) for path in glob.glob(f"{TOP}/crates/*") if os.path.isdir(path))
+
+
+def all_contracts() -> list[Contract]:
+    """Returns the contracts of all crates."""
+    return [it for crate in crates() for path in sorted(glob.glob(f"{TOP}/crates/{crate}/src/**/*.rt", recursive=True)) for it in contracts_of(crate, path)]
+
+
+def homonyms() -> dict[str, list[str]]:
+    """Returns the words that two or more crates define, each with its crates."""
+    found: dict[str, set[str]] = collections.defaultdict(set)
+    for crate in crates():
+        for path in glob.glob(f"{TOP}/crates/{crate}/specs/**/*.antt", recursive=True):
+            with open(path, encoding="utf-8") as it:
+                for match in DEFINED.finditer(it.read()):
+                    found[match[1]].add(crate)
+    return {word: sorted(where) for word, where in sorted(found.items()) if len(where) > 1}
+
+
+def main() -> int:
+    """Prints what is told, and returns the exit status."""
+    words = argparse.ArgumentParser(description=__doc__, formatter_class=argparse.RawDescriptionHelpFormatter)
+    words.add_argument("--most", nargs=2, type=int, metavar=("FUNCTIONS", "WORDS"), help="how many of each may be told")
+    words.add_argument("--quiet", action="store_true", help="tell the numbers alone")
+    asked = words.parse_args()
+    long = sorted((it for it in all_contracts() if it.is_long()), key=lambda it: -it.characters)
+    same = homonyms()
+    if not asked.quiet:
+        for it in long:
+            print(f"{it.characters:5} characters {len(it.clauses):3} clauses  {it.crate}::{it.name}  {os.path.relpath(it.path, TOP)}")
+        for word, where in same.items():
+            print(f"{word}: {', '.join(where)}")
+    print(f"{len(long)} long contracts, {len(same)} words of two or more crates")
+    return int(asked.most is not None and (len(long) > asked.most[0] or len(same) > asked.most[1]))
+
+
+if __name__ == "__main__":
+    sys.exit(main())
