@@ -21,8 +21,16 @@ loop-place-preserved g c =
         | then-place-lane+in_ok-push w ↦
             (let here : (c.loop-place.place % 4 == c.args.lane) ≡ true = grind (arith, nat_tests, w.if-place-lane.true) in
             rw (
-              w.list-is, w.in_ok-push.ensures.items, w.of.ensures, w.load_step.ensures, c.loop-place.invariant.list, number, lane_more c.args.count c.args.lane c.loop-place.place, here,
-              map-append g.T.OfStep.of before (step ∷ []), append_assoc c.args.list.now.items (map g.T.OfStep.of before) (g.T.OfStep.of step ∷ []),
+              w.list-is,
+              w.in_ok-push.ensures.items,
+              w.of.ensures,
+              w.load_step.ensures,
+              c.loop-place.invariant.list,
+              number,
+              lane_more c.args.count c.args.lane c.loop-place.place,
+              here,
+              map-append g.T.OfStep.of before (step ∷ []),
+              append_assoc c.args.list.now.items (map g.T.OfStep.of before) (g.T.OfStep.of step ∷ []),
             ) refl)
         | else-place-lane w ↦
             (let other : (c.loop-place.place % 4 == c.args.lane) ≡ false = grind (arith, nat_tests, w.if-place-lane.false) in
