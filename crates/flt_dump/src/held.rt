@@ -58,7 +58,9 @@ fn held_in(
         Err(BlockFault::Damaged { sector, page }) => {
             return Ok(Err(StartFault::Damaged(Place::Page { sector, page })));
         }
-        Err(_) => unreachable!(),
+        Err(BlockFault::Flash) => unreachable!(),
+        Err(BlockFault::Full { .. }) => unreachable!(),
+        Err(BlockFault::SequenceSpent) => unreachable!(),
     }
     let mut nvm = Nvm::make(driver, table);
     let mut state = initial(config);
