@@ -211,7 +211,7 @@ fn begin<D: Blocks + Drop>(
 ) -> Boot
     requires room { HasRoom config.now (driver_of store.old).room }
     requires boots { 0 < (driver_of store.old).device.bench.boots_left }
-    ensures { IsBegunBy config.now result store.new }
+    ensures { IsBegunBy config.now (driver_of store.old) result store.new }
 {
     store.power_up();
     match store.start_up(config, &mut buffers.state) {
