@@ -4,3 +4,4 @@ pub mod Midway
 pub mod Dues
 pub mod Writings
 pub mod Says
+pub mod Beginnings

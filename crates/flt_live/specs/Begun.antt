@@ -1,16 +1,43 @@
--- How a life of a session begins.
-use Rattle.std.specs.Prelude.{◌≢◌}
+-- How a life of a session begins, in the words of a life of `run`.
+use Rattle.std.specs.Prelude.{◌≡◌, ℕ, [], IsFalse}
 use Rattle.flt_config.specs.declared.config.Config.{Config}
 use Rattle.flt_config.specs.Durable.{Fits}
+use Rattle.flt_flash.specs.Blocks.{BlocksState}
 use Rattle.flt_flash.specs.declared.blocks.Blocks.{Ghosts}
-use Rattle.flt_restore.specs.declared.fault.StartFault.TheVariants.{Flash}
 use Rattle.flt_store.specs.declared.store.Store.{Store}
-use Rattle.flt_store.specs.Store.{IsRunning, numbered}
+use Rattle.flt_store.specs.Store.{IsRunning, driver_of, numbered}
+use Rattle.flt_life_model.specs.Chain.{Finds, IsLifeBetween, LifeView}
+use Rattle.flt_life_model.specs.Moment.{moment_of}
+use Rattle.flt_life_model.specs.Statuses.{status_by}
 use Rattle.flt_life_model.specs.declared.life.Boot.{Boot}
 use Rattle.flt_life_model.specs.declared.life.Boot.TheVariants.{Started, Dark, Refused}
 
--- A life that was started is on a store that runs with the restored generation; one that met three faults is dark, and not refused.
-abbrev pub IsBegunBy : {B : Type 0} {b : Ghosts B} → Config → Boot → Store B b → Type 0
-IsBegunBy c (Started number state) store = Fits c state × IsRunning c (numbered number state) (numbered number state) store
-IsBegunBy c Dark store = Unit {0}
-IsBegunBy c (Refused fault) store = fault ≢ Flash
+-- A life that began so and made no step.
+abbrev pub without_steps : Boot → LifeView
+without_steps boot = record { parts = []; boot = boot; journal = []; queue = []; own = []; lanes = [] }
+
+-- It has the cause that such a life of `run` has, between the driver before the power-up and that behind the start-up.
+abbrev pub HasBegun : {B : Type 0} {b : Ghosts B} → Config → BlocksState → Boot → Store B b → Type 0
+HasBegun c before boot store = IsLifeBetween c (moment_of before) (moment_of (driver_of store)) (driver_of store).device.faults (without_steps boot)
+
+-- A life that was started is on a store that runs with the generation that was found in the image, where a sequence number was left. One
+-- that is dark or refused has its cause, and leaves the image as such a life of `run` does.
+abbrev pub IsBegunBy : {B : Type 0} {b : Ghosts B} → Config → BlocksState → Boot → Store B b → Type 0
+IsBegunBy c before (Started number state) store = Finds c (moment_of before) (driver_of store).device.faults (numbered number state)
+    × IsFalse before.is_spent × Fits c state × IsRunning c (numbered number state) (numbered number state) store
+IsBegunBy c before Dark store = HasBegun c before Dark store
+IsBegunBy c before (Refused fault) store = HasBegun c before (Refused fault) store
+
+-- The same of the driver alone.
+abbrev pub IsFoundBy : Config → (before after : BlocksState) → Boot → Type 0
+IsFoundBy c before after (Started number state) =
+    Finds c (moment_of before) after.device.faults (numbered number state) × IsFalse before.is_spent × Fits c state
+IsFoundBy c before after Dark = IsLifeBetween c (moment_of before) (moment_of after) after.device.faults (without_steps Dark)
+IsFoundBy c before after (Refused fault) = IsLifeBetween c (moment_of before) (moment_of after) after.device.faults (without_steps (Refused fault))
+
+-- A life whose status is that of how it began; the driver behind its start-up shows the cause.
+pub record HasBegunFor (c : Config) (before : BlocksState) (status : ℕ) : Type 0 where
+  pub boot : Boot
+  pub status_is : status ≡ status_by boot
+  pub after : BlocksState
+  pub found : IsFoundBy c before after boot

@@ -11,7 +11,7 @@ ghost use Rattle.flt_life_model.specs.declared.life.Boot.TheVariants.{Refused};
 ghost use Rattle.flt_lives.specs.Living.{IsUnderWay};
 ghost use Rattle.flt_report.specs.Boot.{boot_line};
 ghost use Rattle.flt_live.specs.Answered.{IsReady};
-ghost use Rattle.flt_live.specs.Begun.{IsBegunBy};
+ghost use Rattle.flt_live.specs.Begun.{HasBegunFor, IsBegunBy};
 ghost use Rattle.flt_live.specs.Said.{HasGrown, IsLifeSaid, IsLost, UnlessLost};
 
 use crate::line::{Answered, answer_dark_line, answer_line};
@@ -211,7 +211,7 @@ fn begin<D: Blocks + Drop>(
 ) -> Boot
     requires room { HasRoom config.now (driver_of store.old).room }
     requires boots { 0 < (driver_of store.old).device.bench.boots_left }
-    ensures { IsBegunBy config.now result store.new }
+    ensures { IsBegunBy config.now (driver_of store.old) result store.new }
 {
     store.power_up();
     match store.start_up(config, &mut buffers.state) {
@@ -243,6 +243,7 @@ pub fn live<R: Wait, D: Blocks + Drop, S: Source, K: Sink>(
     requires ready { IsReady room.old }
     ensures same { config_of unit.new ≡ config.now }
     ensures ready { IsReady room.new }
+    ensures begun { HasBegunFor config.now (driver_of store.old) (number_of result.status) }
     ensures said { IsLifeSaid (K.held sink.old) (K.held sink.new) number (number_of result.status) result.end }
 {
     let boot = begin(store, config, &mut room.buffers);

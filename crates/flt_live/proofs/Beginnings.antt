@@ -1,0 +1,57 @@
+-- A life of a session that began.
+use Rattle.std.proofs.Common.{◌≡◌, ℕ, refl, sym, subst}
+use Rattle.std.specs.Prelude.{◌≢◌, IsFalse}
+use Rattle.flt_config.specs.declared.config.Config.{Config}
+use Rattle.flt_config.specs.declared.persist.Persist.{Persist}
+use Rattle.flt_config.specs.Durable.{Fits}
+use Rattle.flt_flash.specs.Blocks.{BlocksState}
+use Rattle.flt_flash.specs.Calls.{Follows, PowersUpDriver}
+use Rattle.flt_flash.specs.declared.blocks.Blocks.{Ghosts}
+use Rattle.flt_restore.specs.declared.fault.StartFault.{StartFault}
+use Rattle.flt_restore.specs.declared.fault.StartFault.TheVariants as faults
+use Rattle.flt_store.specs.declared.store.Store.{Store}
+use Rattle.flt_store.specs.Start.{RefusedFor, Starts}
+use Rattle.flt_store.specs.Store.{driver_of, numbered}
+use Rattle.flt_store_model.specs.Holding.{Generation, IsSound, OldOrNew, SameApplications}
+use Rattle.flt_life_model.specs.Chain.{Finds, IsLifeBetween}
+use Rattle.flt_life_model.specs.Moment.{Moment, moment_of}
+use Rattle.flt_life_model.specs.declared.life.Boot.TheVariants.{Started, Dark, Refused}
+use Rattle.flt_lives.proofs.Starting.{finds, keeps, refused_is, refuses, same_moment}
+use Rattle.flt_life_model.specs.Statuses.{status_by}
+use Rattle.flt_life_model.specs.declared.life.Boot.{Boot}
+use Rattle.flt_live.specs.Begun.{HasBegunFor, IsBegunBy, IsFoundBy, without_steps}
+
+module _ {B : Type 0} {b : Ghosts B} (c : Config) (first : BlocksState) (before after : Store B b) (powers : PowersUpDriver first (driver_of before)) where
+  pub begun_started : (number : ℕ) (state start : Persist) → start ≡ state → Starts c number state before after → Fits c state → IsBegunBy c first (Started number start) after
+  begun_started number state start same starts fits =
+      subst (λ (s : Persist). IsBegunBy c first (Started number s) after) (sym same) (
+        subst (λ (m : Moment). Finds c m (driver_of after).device.faults (numbered number state)) (same_moment first (driver_of before) powers) (finds c before after number state starts),
+        subst (λ (m : Moment). IsFalse m.is_spent) (same_moment first (driver_of before) powers) starts.usable,
+        fits,
+        starts.running,
+      )
+
+  module _ (follows : Follows (driver_of before) (driver_of after)) (left : (h s : Generation) → IsSound c (driver_of before).value h s → OldOrNew c (driver_of after).value h s h)
+      (same : SameApplications (driver_of before).value (driver_of after).value) where
+    pub begun_dark : RefusedFor c before after faults.Flash → IsBegunBy c first Dark after
+    begun_dark three =
+        subst (λ (m : Moment). IsLifeBetween c m (moment_of (driver_of after)) (driver_of after).device.faults (without_steps Dark)) (same_moment first (driver_of before) powers)
+        (three, refl, keeps c (driver_of before) (driver_of after) follows left, same)
+
+    pub begun_refused : (fault : StartFault) → fault ≢ faults.Flash → RefusedFor c before after fault → IsBegunBy c first (Refused fault) after
+    begun_refused fault other told =
+        subst (λ (m : Moment). IsLifeBetween c m (moment_of (driver_of after)) (driver_of after).device.faults (without_steps (Refused fault))) (same_moment first (driver_of before) powers)
+        (refused_is c before after fault (refuses fault other) follows told (keeps c (driver_of before) (driver_of after) follows left), refl, same)
+
+-- No life is refused for the flash.
+pub refused_other : {B : Type 0} {b : Ghosts B} (c : Config) (first : BlocksState) (fault : StartFault) (store : Store B b) → IsBegunBy c first (Refused fault) store → fault ≢ faults.Flash
+refused_other c first fault store begun = λ is. absurd (subst (λ (f : StartFault). IsBegunBy c first (Refused f) store) is begun).0
+
+-- The driver shows it.
+pub found_by : {B : Type 0} {b : Ghosts B} (c : Config) (first : BlocksState) (store : Store B b) (boot : Boot) → IsBegunBy c first boot store → IsFoundBy c first (driver_of store) boot
+found_by c first store (Started number state) begun = (begun.0, begun.1, begun.2)
+found_by c first store Dark begun = begun
+found_by c first store (Refused fault) begun = begun
+
+pub has_begun : {B : Type 0} {b : Ghosts B} (c : Config) (first : BlocksState) (store : Store B b) (boot : Boot) (status : ℕ) → status ≡ status_by boot → IsBegunBy c first boot store → HasBegunFor c first status
+has_begun c first store boot status is begun = record { boot = boot; status_is = is; after = driver_of store; found = found_by c first store boot begun }
