@@ -17,9 +17,7 @@ use Rattle.flt_life_model.specs.Chain.{Finds, IsLifeBetween}
 use Rattle.flt_life_model.specs.Moment.{Moment, moment_of}
 use Rattle.flt_life_model.specs.declared.life.Boot.TheVariants.{Started, Dark, Refused}
 use Rattle.flt_lives.proofs.Starting.{finds, keeps, refused_is, refuses, same_moment}
-use Rattle.flt_life_model.specs.Statuses.{status_by}
-use Rattle.flt_life_model.specs.declared.life.Boot.{Boot}
-use Rattle.flt_live.specs.Begun.{HasBegunFor, IsBegunBy, IsFoundBy, without_steps}
+use Rattle.flt_live.specs.Begun.{IsBegunBy, without_steps}
 
 module _ {B : Type 0} {b : Ghosts B} (c : Config) (first : BlocksState) (before after : Store B b) (powers : PowersUpDriver first (driver_of before)) where
   pub begun_started : (number : ℕ) (state start : Persist) → start ≡ state → Starts c number state before after → Fits c state → IsBegunBy c first (Started number start) after
@@ -46,12 +44,3 @@ module _ {B : Type 0} {b : Ghosts B} (c : Config) (first : BlocksState) (before 
 -- No life is refused for the flash.
 pub refused_other : {B : Type 0} {b : Ghosts B} (c : Config) (first : BlocksState) (fault : StartFault) (store : Store B b) → IsBegunBy c first (Refused fault) store → fault ≢ faults.Flash
 refused_other c first fault store begun = λ is. absurd (subst (λ (f : StartFault). IsBegunBy c first (Refused f) store) is begun).0
-
--- The driver shows it.
-pub found_by : {B : Type 0} {b : Ghosts B} (c : Config) (first : BlocksState) (store : Store B b) (boot : Boot) → IsBegunBy c first boot store → IsFoundBy c first (driver_of store) boot
-found_by c first store (Started number state) begun = (begun.0, begun.1, begun.2)
-found_by c first store Dark begun = begun
-found_by c first store (Refused fault) begun = begun
-
-pub has_begun : {B : Type 0} {b : Ghosts B} (c : Config) (first : BlocksState) (store : Store B b) (boot : Boot) (status : ℕ) → status ≡ status_by boot → IsBegunBy c first boot store → HasBegunFor c first status
-has_begun c first store boot status is begun = record { boot = boot; status_is = is; after = driver_of store; found = found_by c first store boot begun }

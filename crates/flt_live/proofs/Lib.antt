@@ -5,3 +5,6 @@ pub mod Dues
 pub mod Writings
 pub mod Says
 pub mod Beginnings
+pub mod Hearing
+pub mod Boots
+pub mod Closings

@@ -1,6 +1,8 @@
--- The bytes ahead of a reader.
+-- The bytes ahead of a reader, and the lines that it takes.
 use Rattle.std.specs.Prelude.{◌≡◌, ◌≢◌, ◌<◌, All, length, ℕ, ◌-◌, List, [], ◌∷◌, ◌++◌, Option, Some, None, take, drop}
 use Rattle.std.specs.Io.KnownBytes.{Keeps, Consumes, IsAtEnd}
+use Rattle.std.specs.Str.Lines.{strip_carriage_return}
+use Rattle.flt_live.specs.declared.ear.Ear.{Ear}
 use Rattle.flt_live.specs.declared.reader.LineReader.{LineReader}
 use Rattle.flt_live.specs.declared.reader.Line.{Line}
 use Rattle.flt_live.specs.declared.reader.Line.TheVariants.{Fed, Cut, Ended}
@@ -44,3 +46,19 @@ abbrev pub IsLast : Line → List ℕ → Type 0
 IsLast Fed kept = ⊥
 IsLast Cut kept = 0 < length kept
 IsLast Ended kept = kept ≡ []
+
+-- The text of a line of which this is kept: without a carriage return before its line feed.
+abbrev pub text_of : Line → List ℕ → List ℕ
+text_of Fed kept = strip_carriage_return kept
+text_of Cut kept = kept
+text_of Ended kept = kept
+
+-- The same of an ear: what it pulled and did not take, what is ahead of it, and what it keeps of the line that it read last.
+abbrev pub pulled_in : Ear → List ℕ
+pulled_in ear = pulled ear.reader
+
+abbrev pub ahead_in : Option (List ℕ) → Ear → Option (List ℕ)
+ahead_in left ear = ahead_of left ear.reader
+
+abbrev pub kept_in : Ear → List ℕ
+kept_in ear = ear.text.items

@@ -1,5 +1,5 @@
 -- How a life of a session begins, in the words of a life of `run`.
-use Rattle.std.specs.Prelude.{◌≡◌, ℕ, [], IsFalse}
+use Rattle.std.specs.Prelude.{[], IsFalse}
 use Rattle.flt_config.specs.declared.config.Config.{Config}
 use Rattle.flt_config.specs.Durable.{Fits}
 use Rattle.flt_flash.specs.Blocks.{BlocksState}
@@ -8,7 +8,6 @@ use Rattle.flt_store.specs.declared.store.Store.{Store}
 use Rattle.flt_store.specs.Store.{IsRunning, driver_of, numbered}
 use Rattle.flt_life_model.specs.Chain.{Finds, IsLifeBetween, LifeView}
 use Rattle.flt_life_model.specs.Moment.{moment_of}
-use Rattle.flt_life_model.specs.Statuses.{status_by}
 use Rattle.flt_life_model.specs.declared.life.Boot.{Boot}
 use Rattle.flt_life_model.specs.declared.life.Boot.TheVariants.{Started, Dark, Refused}
 
@@ -27,17 +26,3 @@ IsBegunBy c before (Started number state) store = Finds c (moment_of before) (dr
     × IsFalse before.is_spent × Fits c state × IsRunning c (numbered number state) (numbered number state) store
 IsBegunBy c before Dark store = HasBegun c before Dark store
 IsBegunBy c before (Refused fault) store = HasBegun c before (Refused fault) store
-
--- The same of the driver alone.
-abbrev pub IsFoundBy : Config → (before after : BlocksState) → Boot → Type 0
-IsFoundBy c before after (Started number state) =
-    Finds c (moment_of before) after.device.faults (numbered number state) × IsFalse before.is_spent × Fits c state
-IsFoundBy c before after Dark = IsLifeBetween c (moment_of before) (moment_of after) after.device.faults (without_steps Dark)
-IsFoundBy c before after (Refused fault) = IsLifeBetween c (moment_of before) (moment_of after) after.device.faults (without_steps (Refused fault))
-
--- A life whose status is that of how it began; the driver behind its start-up shows the cause.
-pub record HasBegunFor (c : Config) (before : BlocksState) (status : ℕ) : Type 0 where
-  pub boot : Boot
-  pub status_is : status ≡ status_by boot
-  pub after : BlocksState
-  pub found : IsFoundBy c before after boot

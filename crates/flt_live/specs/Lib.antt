@@ -4,4 +4,6 @@ pub mod Made
 pub mod Due
 pub mod Answered
 pub mod Begun
-pub mod Said
+pub mod Heard
+pub mod Lived
+pub mod Session

@@ -1,21 +1,24 @@
 //! A life of a session: from its power-up to a `power`, or to the end of the source.
-ghost use Rattle.std.specs.Prelude.{◌≡◌, ◌≢◌, ◌<◌, ◌≤◌, IfOk};
-ghost use Rattle.std.specs.Vec.{vec_capacity};
+ghost use Rattle.std.specs.Prelude.{◌≡◌, ◌≢◌, ◌<◌, ◌≤◌, [], IfOk};
 ghost use Rattle.flt_io.specs.Status.{number_of};
 ghost use Rattle.flt_io.specs.Written.{Writes};
 ghost use Rattle.flt_dcm.specs.Whole.{config_of, state_of};
+ghost use Rattle.flt_store_model.specs.Holding.{Generation};
 ghost use Rattle.flt_restore.specs.declared.fault.StartFault.TheVariants.{Flash};
 ghost use Rattle.flt_store.specs.Cause.{HasRoom};
 ghost use Rattle.flt_store.specs.Store.{driver_of, IsAlive};
 ghost use Rattle.flt_life_model.specs.declared.life.Boot.TheVariants.{Refused};
-ghost use Rattle.flt_lives.specs.Living.{IsUnderWay};
+ghost use Rattle.flt_lives.specs.Living.{IsLiving, IsUnderWay};
 ghost use Rattle.flt_report.specs.Boot.{boot_line};
 ghost use Rattle.flt_live.specs.Answered.{IsReady};
-ghost use Rattle.flt_live.specs.Begun.{HasBegunFor, IsBegunBy};
-ghost use Rattle.flt_live.specs.Said.{HasGrown, IsLifeSaid, IsLost, UnlessLost};
+ghost use Rattle.flt_live.specs.Begun.{IsBegunBy};
+ghost use Rattle.flt_live.specs.Ahead.{ahead_in};
+ghost use Rattle.flt_live.specs.Heard.{talk};
+ghost use Rattle.flt_live.specs.Lived.{IsLifeLived, IsLostFor, TakesDarkLines, TakesLines, UnlessLost, lost_by};
 
+use crate::ear::Ear;
 use crate::line::{Answered, answer_dark_line, answer_line};
-use crate::reader::{KEPT, Line, LineReader};
+use crate::reader::Line;
 use flt_config::ValidConfig;
 use flt_dcm::Unit;
 use flt_flash::Blocks;
@@ -25,7 +28,6 @@ use flt_lives::Buffers;
 use flt_model::RESPONSE;
 use flt_queue::JobQueue;
 use flt_report::{put_boot, status_by};
-use flt_script::without_return;
 use flt_store::{StartFault, Store};
 use std::alloc::{AllocError, Global};
 use std::sync::Wait;
@@ -75,41 +77,12 @@ pub enum LifeEnd {
 }
 
 /// How a life ends whose line was not written.
-fn end_of(fault: StreamFault) -> LifeEnd
-    ensures { IsLost result }
+fn lost_by(fault: StreamFault) -> LifeEnd
+    ensures { result ≡ lost_by fault }
 {
     match fault {
         StreamFault::Memory => LifeEnd::Memory,
         StreamFault::Failed => LifeEnd::Unwritten,
-    }
-}
-
-/// The lines of a source, of which the last that was read is kept.
-#[derive(Drop)]
-pub struct Ear {
-    reader: LineReader,
-    text: Vec<u8>,
-    ghost room: { 514 ≤ vec_capacity text },
-}
-
-impl Ear {
-    /// No line was read. The error means that memory ran out.
-    pub fn new(alloc: Global) -> Result<Ear, AllocError> {
-        let text = Vec::with_capacity(alloc, KEPT)?;
-        Ok(Ear {
-            reader: LineReader::new(),
-            text,
-        })
-    }
-
-    /// Reads the next line, without what ends it.
-    fn next<R: Wait, S: Source>(&mut self, rt: &R, source: &mut S) -> Result<&[u8], LifeEnd> {
-        match self.reader.line(rt, source, &mut self.text) {
-            Ok(Line::Fed) => Ok(without_return(&self.text)),
-            Ok(Line::Cut) => Ok(&self.text),
-            Ok(Line::Ended) => Err(LifeEnd::Ended),
-            Err(_) => Err(LifeEnd::Unread),
-        }
     }
 }
 
@@ -131,20 +104,27 @@ fn take_lines<R: Wait, D: Blocks + Drop, S: Source, K: Sink>(
     requires ready { IsReady room.old }
     ensures same { config_of unit.new ≡ config.now }
     ensures ready { IsReady room.new }
-    ensures grown { UnlessLost result (HasGrown (K.held sink.old) (K.held sink.new)) }
+    ensures taken { (first : Generation) → IsLiving config.now first [] [] (state_of unit.old) store.old
+        → UnlessLost result (TakesLines config.now first (talk (ahead_in (S.left source.old) ear.old) (S.faults source.old) (K.held sink.old) (K.faults sink.old))
+        (talk (ahead_in (S.left source.new) ear.new) (S.faults source.new) (K.held sink.new) (K.faults sink.new)) (state_of unit.new) store.new result) }
+    ensures cause { IsLostFor (K.faults sink.old) (K.faults sink.new) result }
+    ensures read_faults { S.faults source.old ≤ S.faults source.new }
+    ensures write_faults { K.faults sink.old ≤ K.faults sink.new }
 {
     let Ok(mut queue) = JobQueue::new(alloc, config.config().blocks) else {
         return LifeEnd::Memory;
     };
     for _ in rt.forever() {
-        let text = match ear.next(rt, source) {
-            Ok(text) => text,
-            Err(end) => return end,
+        let ended = match ear.hear(rt, source) {
+            Ok(Line::Ended) => return LifeEnd::Ended,
+            Ok(ended) => ended,
+            Err(_) => return LifeEnd::Unread,
         };
+        let text = ear.text(ended);
         match answer_line(alloc, unit, &mut queue, store, config, room, text, sink) {
             Ok(Answered::Line) => {}
             Ok(Answered::Power) => return LifeEnd::Power,
-            Err(fault) => return end_of(fault),
+            Err(fault) => return lost_by(fault),
         }
     }
     unreachable!()
@@ -162,17 +142,22 @@ fn take_dark_lines<R: Wait, S: Source, K: Sink>(
 ) -> LifeEnd
     requires ready { IsReady room.old }
     ensures ready { IsReady room.new }
-    ensures grown { UnlessLost result (HasGrown (K.held sink.old) (K.held sink.new)) }
+    ensures taken { UnlessLost result (TakesDarkLines config.now (talk (ahead_in (S.left source.old) ear.old) (S.faults source.old) (K.held sink.old) (K.faults sink.old))
+        (talk (ahead_in (S.left source.new) ear.new) (S.faults source.new) (K.held sink.new) (K.faults sink.new)) result) }
+    ensures cause { IsLostFor (K.faults sink.old) (K.faults sink.new) result }
+    ensures read_faults { S.faults source.old ≤ S.faults source.new }
+    ensures write_faults { K.faults sink.old ≤ K.faults sink.new }
 {
     for _ in rt.forever() {
-        let text = match ear.next(rt, source) {
-            Ok(text) => text,
-            Err(end) => return end,
+        let ended = match ear.hear(rt, source) {
+            Ok(Line::Ended) => return LifeEnd::Ended,
+            Ok(ended) => ended,
+            Err(_) => return LifeEnd::Unread,
         };
-        match answer_dark_line(alloc, config, room, text, sink) {
+        match answer_dark_line(alloc, config, room, ear.text(ended), sink) {
             Ok(Answered::Line) => {}
             Ok(Answered::Power) => return LifeEnd::Power,
-            Err(fault) => return end_of(fault),
+            Err(fault) => return lost_by(fault),
         }
     }
     unreachable!()
@@ -243,13 +228,14 @@ pub fn live<R: Wait, D: Blocks + Drop, S: Source, K: Sink>(
     requires ready { IsReady room.old }
     ensures same { config_of unit.new ≡ config.now }
     ensures ready { IsReady room.new }
-    ensures begun { HasBegunFor config.now (driver_of store.old) (number_of result.status) }
-    ensures said { IsLifeSaid (K.held sink.old) (K.held sink.new) number (number_of result.status) result.end }
+    ensures lived { IsLifeLived config.now number (number_of result.status) (driver_of store.old) store.new (state_of unit.new)
+        (talk (ahead_in (S.left source.old) ear.old) (S.faults source.old) (K.held sink.old) (K.faults sink.old))
+        (talk (ahead_in (S.left source.new) ear.new) (S.faults source.new) (K.held sink.new) (K.faults sink.new)) result.end }
 {
     let boot = begin(store, config, &mut room.buffers);
     let status = status_by(&boot);
     if let Err(fault) = say_boot(number, &boot, &mut room.line, sink) {
-        let end = end_of(fault);
+        let end = lost_by(fault);
         return Lived { status, end };
     }
     let end = match &boot {

@@ -1,4 +1,10 @@
 //! What the words of the program ask for.
+ghost use Rattle.std.specs.Prelude.{◌≡◌, is_some, map};
+ghost use Rattle.std.specs.String.{string_bytes};
+ghost use Rattle.flt_did.specs.Table.{dids_of};
+ghost use Rattle.flt_io.specs.Status.{number_of};
+ghost use Rattle.flt_live.specs.Heard.{talk};
+ghost use Rattle.flt_live.specs.Session.{IsProgram, IsSession, Reading, is_call, status_told};
 
 use crate::session::run_session;
 use crate::shelf::{FileShelf, MemShelf};
@@ -12,7 +18,9 @@ use std::sync::Wait;
 const USAGE: &[u8] = b"usage: faultmem live CONFIG [IMAGE]\n";
 
 /// The paths that the words behind the program's name ask for: that of the configuration, and that of the image if there is one.
-fn read_words(words: &[String]) -> Option<(&str, Option<&str>)> {
+fn read_words(words: &[String]) -> Option<(&str, Option<&str>)>
+    ensures { is_some result ≡ is_call (map string_bytes words.now) }
+{
     match words {
         [word, config] => match word.as_bytes() {
             b"live" => Some((config.as_str(), None)),
@@ -34,7 +42,11 @@ fn hold<R: AllocGlobal + Files<File = File> + Wait, C: Source, S: Source, K: Sin
     configuration: &mut C,
     source: &mut S,
     sink: &mut K,
-) -> Status {
+) -> Status
+    ensures { (config : Reading) × IsSession (dids_of dids) config
+        (talk (S.left source.old) (S.faults source.old) (K.held sink.old) (K.faults sink.old))
+        (talk (S.left source.new) (S.faults source.new) (K.held sink.new) (K.faults sink.new)) (number_of result) }
+{
     let alloc = rt.alloc();
     match image {
         Some(path) => {
@@ -49,7 +61,9 @@ fn hold<R: AllocGlobal + Files<File = File> + Wait, C: Source, S: Source, K: Sin
 }
 
 /// The status where a line was written or not.
-pub(crate) fn status_told(status: Status, told: Result<(), StreamFault>) -> Status {
+pub(crate) fn status_told(status: Status, told: Result<(), StreamFault>) -> Status
+    ensures { number_of result ≡ status_told (number_of status) told }
+{
     match told {
         Ok(()) => status,
         Err(StreamFault::Failed) => Status::WriteFault,
@@ -65,7 +79,11 @@ pub fn run_live<R: AllocGlobal + Files<File = File> + Wait, S: Source, K: Sink>(
     dids: DidTable<DID_ROWS>,
     source: &mut S,
     sink: &mut K,
-) -> Status {
+) -> Status
+    ensures { IsProgram (dids_of dids) (is_call (map string_bytes words.now))
+        (talk (S.left source.old) (S.faults source.old) (K.held sink.old) (K.faults sink.old))
+        (talk (S.left source.new) (S.faults source.new) (K.held sink.new) (K.faults sink.new)) (number_of result) }
+{
     let Some((config, image)) = read_words(words) else {
         return match sink.push(USAGE) {
             Ok(()) => Status::Usage,

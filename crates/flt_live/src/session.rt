@@ -1,14 +1,22 @@
 //! A session: its configuration, and its lives one after the other.
-ghost use Rattle.std.specs.Prelude.{◌≡◌, ◌<◌, ◌≤◌, IfOk};
+ghost use Rattle.std.specs.Prelude.{◌≡◌, ◌⊎◌, ◌↔◌, ◌<◌, ◌≤◌, IfErr, IfOk, IsTrue};
 ghost use Rattle.flt_did.specs.Serves.{Serves};
 ghost use Rattle.flt_did.specs.Table.{dids_of};
+ghost use Rattle.flt_io.specs.Fault.{Rose};
 ghost use Rattle.flt_io.specs.Status.{number_of};
 ghost use Rattle.flt_dcm.specs.Whole.{config_of};
 ghost use Rattle.flt_store.specs.Cause.{HasRoom};
 ghost use Rattle.flt_store.specs.Store.{driver_of};
-ghost use Rattle.flt_live.specs.Said.{IsSessionSaid};
+ghost use Rattle.flt_script.specs.Script.{content};
+ghost use Rattle.flt_life_model.specs.declared.life.Boot.{Boot};
+ghost use Rattle.flt_life_model.specs.Lives.{lists};
+ghost use Rattle.flt_life_model.specs.Statuses.{status_by};
+ghost use Rattle.flt_live.specs.Heard.{talk};
+ghost use Rattle.flt_live.specs.Lived.{HasGrown, IsSessionSaid};
+ghost use Rattle.flt_live.specs.Session.{EndsFor, HasFailed, IsEndOf, IsIdle, IsSession, reading, status_of_shelf};
 
-use crate::living::{Ear, LifeEnd, Room, live};
+use crate::ear::Ear;
+use crate::living::{LifeEnd, Room, live};
 use crate::program::status_told;
 use crate::shelf::Shelf;
 use flt_config::ValidConfig;
@@ -39,12 +47,6 @@ enum End {
     Memory,
     /// The flash was not opened.
     Shelf(OpenFault),
-}
-
-impl From<AllocError> for End {
-    fn from(_: AllocError) -> End {
-        End::Memory
-    }
 }
 
 /// A store over the device of a life.
@@ -82,15 +84,23 @@ fn live_on<R: Wait, S: Source, K: Sink, B: Bench + Drop, H: Shelf<B>>(
     shelf: &mut H,
 ) -> Result<Status, End>
     requires same { config_of unit.old ≡ config.now }
-    ensures { IfOk result (λ status. IsSessionSaid (K.held sink.old) (K.held sink.new) (number_of status)) }
+    ensures said { IfOk result (λ status. (boot : Boot) × (number_of status ≡ status_by boot) × IsSessionSaid (K.held sink.old) (K.held sink.new) boot) }
+    ensures failed { IfErr result (HasFailed (talk (S.left source.old) (S.faults source.old) (K.held sink.old) (K.faults sink.old))
+        (talk (S.left source.new) (S.faults source.new) (K.held sink.new) (K.faults sink.new))) }
 {
-    let mut room = Room::new(alloc, config)?;
-    let mut ear = Ear::new(alloc)?;
+    let Ok(mut room) = Room::new(alloc, config) else {
+        return Err(End::Memory);
+    };
+    let Ok(mut ear) = Ear::new(alloc) else {
+        return Err(End::Memory);
+    };
     let mut number: u32 = 0;
     for _ in rt.forever() {
         number = number.saturating_add(1);
         let flash = shelf.open(config.config().pages).map_err(End::Shelf)?;
-        let mut store = store_over::<Fee<B>>(alloc, flash, config)?;
+        let Ok(mut store) = store_over::<Fee<B>>(alloc, flash, config) else {
+            return Err(End::Memory);
+        };
         let lived = live(
             rt, alloc, number, unit, &mut store, config, &mut room, &mut ear, source, sink,
         );
@@ -106,7 +116,9 @@ fn live_on<R: Wait, S: Source, K: Sink, B: Bench + Drop, H: Shelf<B>>(
 }
 
 /// The status of a shelf that did not give its flash.
-fn status_of_shelf(fault: &OpenFault) -> Status {
+fn status_of_shelf(fault: &OpenFault) -> Status
+    ensures { number_of result ≡ status_of_shelf fault.now }
+{
     match fault {
         OpenFault::Size { .. } => Status::ImageSize,
         OpenFault::InUse => Status::ImageInUse,
@@ -116,7 +128,10 @@ fn status_of_shelf(fault: &OpenFault) -> Status {
 }
 
 /// Pushes why a shelf did not give its flash.
-fn tell_shelf<K: Sink>(alloc: Global, fault: &OpenFault, sink: &mut K) -> Status {
+fn tell_shelf<K: Sink>(alloc: Global, fault: &OpenFault, sink: &mut K) -> Status
+    ensures { ((number_of result ≡ status_of_shelf fault.now) × HasGrown (K.held sink.old) (K.held sink.new))
+        ⊎ ((number_of result ≡ 7) ⊎ ((number_of result ≡ 4) × Rose (K.faults sink.old) (K.faults sink.new))) }
+{
     let Ok(line) = format!(in alloc; "image refused: {fault}\n") else {
         return Status::OutOfMemory;
     };
@@ -127,8 +142,13 @@ fn tell_shelf<K: Sink>(alloc: Global, fault: &OpenFault, sink: &mut K) -> Status
 }
 
 /// Whether nothing is done in these lives.
-fn is_idle(lives: &[Vec<Part>]) -> bool {
-    lives.len() == 1 && lives[0].is_empty()
+fn is_idle(lives: &[Vec<Part>]) -> bool
+    ensures { IsTrue result ↔ IsIdle (lists lives.now) }
+{
+    match lives {
+        [life] => life.is_empty(),
+        _ => false,
+    }
 }
 
 /// Lives under the configuration of a script that has nothing else.
@@ -142,6 +162,9 @@ fn live_by<R: Wait, S: Source, K: Sink, B: Bench + Drop, H: Shelf<B>>(
     shelf: &mut H,
 ) -> Status
     requires served { Serves (dids_of dids) script.now.config.events.items }
+    ensures { let before = talk (S.left source.old) (S.faults source.old) (K.held sink.old) (K.faults sink.old) in
+        let after = talk (S.left source.new) (S.faults source.new) (K.held sink.new) (K.faults sink.new) in
+        EndsFor (IsEndOf (content script.now).lives before after) before after (number_of result) }
 {
     if !is_idle(&script.lives) {
         return match sink.push(b"script other\n") {
@@ -170,7 +193,11 @@ pub fn run_session<R: Wait, C: Source, S: Source, K: Sink, B: Bench + Drop, H: S
     source: &mut S,
     sink: &mut K,
     shelf: &mut H,
-) -> Status {
+) -> Status
+    ensures { IsSession (dids_of dids) (reading (C.left configuration.old) (C.left configuration.new) (C.faults configuration.old) (C.faults configuration.new))
+        (talk (S.left source.old) (S.faults source.old) (K.held sink.old) (K.faults sink.old))
+        (talk (S.left source.new) (S.faults source.new) (K.held sink.new) (K.faults sink.new)) (number_of result) }
+{
     match fetch(alloc, configuration, &dids) {
         Fetched::Script(script) => live_by(rt, alloc, &script, dids, source, sink, shelf),
         Fetched::Refused(fault) => {

@@ -1,7 +1,11 @@
-use Rattle.std.proofs.Common.{◌≡◌}
+use Rattle.std.proofs.Common.{◌≡◌, ◌≤◌, []}
 use Rattle.flt_dcm.specs.Whole.{config_of, state_of}
+use Rattle.flt_store_model.specs.Holding.{Generation}
+use Rattle.flt_lives.specs.Living.{IsLiving}
+use Rattle.flt_live.specs.Ahead.{ahead_in}
 use Rattle.flt_live.specs.Answered.{IsReady, IsUp}
-use Rattle.flt_live.specs.Said.{HasGrown}
+use Rattle.flt_live.specs.Heard.{talk}
+use Rattle.flt_live.proofs.Hearing.{IsGoing}
 use Rattle.flt_live.proofs.living.take_lines.Given as goal
 
 abbrev pub invariant-loop : goal.invariant-loop
@@ -9,5 +13,11 @@ invariant-loop g l = record {
   same : config_of l.unit ≡ l.config;
   up : IsUp l.config (state_of l.unit) l.queue l.store;
   ready : IsReady l.room;
-  grown : HasGrown (g.K.Sink.held l.initial.sink) (g.K.Sink.held l.sink);
+  later_read : g.S.Source.faults l.initial.source ≤ g.S.Source.faults l.source;
+  later_write : g.K.Sink.faults l.initial.sink ≤ g.K.Sink.faults l.sink;
+  going : (first : Generation) → IsLiving l.config first [] [] (state_of l.initial.unit) l.initial.store
+      → IsGoing l.config first
+      (talk (ahead_in (g.S.Source.left l.initial.source) l.initial.ear) (g.S.Source.faults l.initial.source) (g.K.Sink.held l.initial.sink) (g.K.Sink.faults l.initial.sink))
+      (talk (ahead_in (g.S.Source.left l.source) l.ear) (g.S.Source.faults l.source) (g.K.Sink.held l.sink) (g.K.Sink.faults l.sink))
+      (state_of l.unit) l.queue l.store;
 }

@@ -1,0 +1,164 @@
+-- A life from its power-up on, and the lives of a session.
+use Rattle.std.proofs.Common.{◌≡◌, ℕ, ◌≤◌, ◌++◌, List, [], Option, Result, Ok, arith, refl, ap, sym, subst}
+use Rattle.std.specs.Prelude.{OnOk}
+use Rattle.std.specs.Io.KnownBytes.{Appends}
+use Rattle.flt_config.specs.declared.config.Config.{Config}
+use Rattle.flt_config.specs.Durable.{Fits}
+use Rattle.flt_config.specs.declared.persist.Persist.{Persist}
+use Rattle.flt_dcm.specs.Unit.{Stands, UnitView}
+use Rattle.flt_flash.specs.Blocks.{BlocksState}
+use Rattle.flt_flash.specs.declared.blocks.Blocks.{Ghosts}
+use Rattle.flt_io.specs.Fault.{Rose}
+use Rattle.flt_io.specs.declared.stream.StreamFault.{StreamFault}
+use Rattle.flt_io.specs.declared.stream.StreamFault.TheVariants as streams
+use Rattle.flt_restore.specs.declared.fault.StartFault.{StartFault}
+use Rattle.flt_store.specs.declared.store.Store.{Store}
+use Rattle.flt_store.specs.Store.{IsRunning, numbered}
+use Rattle.flt_store_model.specs.Holding.{Generation}
+use Rattle.flt_life_model.specs.Chain.{start_from}
+use Rattle.flt_life_model.specs.declared.life.Boot.{Boot}
+use Rattle.flt_life_model.specs.declared.life.Boot.TheVariants as boots
+use Rattle.flt_life_model.specs.Statuses.{status_by}
+use Rattle.flt_life_model.proofs.Keeping.{kept_first}
+use Rattle.flt_lives.specs.Living.{IsLiving}
+use Rattle.flt_report.specs.Boot.{boot_line}
+use Rattle.flt_live.specs.declared.living.LifeEnd.{LifeEnd}
+use Rattle.flt_live.specs.declared.living.LifeEnd.TheVariants.{Power, Ended, Unread, Unwritten, Memory}
+use Rattle.flt_live.specs.Begun.{IsBegunBy}
+use Rattle.flt_live.specs.Heard.{Says, Talk, answers_of}
+use Rattle.flt_live.specs.Lived.{GoesOnBy, HasGrown, IsLifeLived, IsLostFor, IsSessionSaid, TakesDarkLines, TakesLines, UnlessLost, lost_by}
+use Rattle.flt_live.proofs.Hearing.{lost_anyway, lost_for, rose_later}
+use Rattle.flt_live.proofs.Writings.{appends_more, nothing_more}
+
+-- A life begins with the generation that was found.
+pub begins : {B : Type 0} {b : Ghosts B} (c : Config) (first : Generation) (unit : UnitView) (store : Store B b) → IsRunning c first first store → Stands (start_from c first.state) [] unit
+    → IsLiving c first [] [] unit store
+begins c first unit store running stands = record { stands = stands; held = first; spare = first; running = running; kept = kept_first c first }
+
+-- What holds of a life that was not lost, and what follows from it.
+unless : (end : LifeEnd) (P Q : Type 0) → (P → Q) → UnlessLost end P → UnlessLost end Q
+unless Power P Q more holds = more holds
+unless Ended P Q more holds = more holds
+unless Unread P Q more holds = more holds
+unless Unwritten P Q more holds = tt
+unless Memory P Q more holds = tt
+
+lost_later : (end : LifeEnd) (first before after : ℕ) → first ≤ before → IsLostFor before after end → IsLostFor first after end
+lost_later Power first before after later lost = tt
+lost_later Ended first before after later lost = tt
+lost_later Unread first before after later lost = tt
+lost_later Unwritten first before after later lost = rose_later first before after later lost
+lost_later Memory first before after later lost = tt
+
+-- What holds of an answer that is Ok.
+pub on_taken : {T E : Type 0} (fact : Type 0) (result : Result T E) (value : T) → result ≡ Ok value → OnOk result fact → fact
+on_taken fact result value is holds = subst (λ r. OnOk r fact) is holds
+
+module _ {B : Type 0} {b : Ghosts B} (c : Config) (number status : ℕ) (before : BlocksState) (begun last : Store B b) (unit : UnitView) (from after : Talk) (end : LifeEnd) where
+  -- A life whose first line was written.
+  pub life_lived : (boot : Boot) → status ≡ status_by boot → IsBegunBy c before boot begun → (between : Talk) → Says (boot_line number boot) from between → from.write_faults ≤ between.write_faults
+      → UnlessLost end (GoesOnBy c boot begun last unit between after end) → IsLostFor between.write_faults after.write_faults end
+      → from.read_faults ≤ after.read_faults → between.write_faults ≤ after.write_faults → IsLifeLived c number status before last unit from after end
+  life_lived boot is begins between says later goes lost reads writes = record {
+    boot = boot;
+    status_is = is;
+    begun = begun;
+    is = begins;
+    said = unless end (GoesOnBy c boot begun last unit between after end)
+        ((t : Talk) × Says (boot_line number boot) from t × GoesOnBy c boot begun last unit t after end)
+        (λ holds. (between, says, holds)) goes;
+    lost = lost_later end from.write_faults between.write_faults after.write_faults later lost;
+    later = record { read = reads; write = omega (arith, later, writes) };
+  }
+
+  -- A life whose first line was not written.
+  pub life_lost : (boot : Boot) → status ≡ status_by boot → IsBegunBy c before boot begun → (fault : StreamFault) → end ≡ lost_by fault → (fault ≡ streams.Failed → Rose from.write_faults after.write_faults)
+      → from.read_faults ≤ after.read_faults → from.write_faults ≤ after.write_faults → IsLifeLived c number status before last unit from after end
+  life_lost boot is begins fault lost rose reads writes = record {
+    boot = boot;
+    status_is = is;
+    begun = begun;
+    is = begins;
+    said = lost_anyway fault end ((t : Talk) × Says (boot_line number boot) from t × GoesOnBy c boot begun last unit t after end) lost;
+    lost = lost_for from.write_faults from.write_faults after.write_faults fault end lost (omega arith) rose;
+    later = record { read = reads; write = writes };
+  }
+
+-- What a start-up left of a life that was started, and what follows its first line.
+module _ {B : Type 0} {b : Ghosts B} (c : Config) (before : BlocksState) (begun last : Store B b) (unit : UnitView) (between after : Talk) (end : LifeEnd) (boot : Boot) (number : ℕ) (state : Persist)
+    (is : boot ≡ boots.Started number state) where
+  pub started : IsBegunBy c before boot begun → Fits c state × IsRunning c (numbered number state) (numbered number state) begun
+  started begins = let how = subst (λ (it : Boot). IsBegunBy c before it begun) is begins in (how.2, how.3)
+
+  pub started_goes : UnlessLost end (TakesLines c (numbered number state) between after unit last end) → UnlessLost end (GoesOnBy c boot begun last unit between after end)
+  started_goes takes = subst (λ (it : Boot). UnlessLost end (GoesOnBy c it begun last unit between after end)) (sym is) takes
+
+module _ {B : Type 0} {b : Ghosts B} (c : Config) (begun : Store B b) (unit : UnitView) (between after : Talk) (end : LifeEnd) (boot : Boot) where
+  pub dark_goes : boot ≡ boots.Dark → UnlessLost end (TakesDarkLines c between after end) → UnlessLost end (GoesOnBy c boot begun begun unit between after end)
+  dark_goes is takes =
+      subst (λ (it : Boot). UnlessLost end (GoesOnBy c it begun begun unit between after end)) (sym is)
+      (unless end (TakesDarkLines c between after end) (GoesOnBy c boots.Dark begun begun unit between after end) (λ holds. (refl, holds)) takes)
+
+  pub refused_goes : (fault : StartFault) → boot ≡ boots.Refused fault → after ≡ between → end ≡ Ended → UnlessLost end (GoesOnBy c boot begun begun unit between after end)
+  refused_goes fault is same ends =
+      subst (λ (it : Boot). UnlessLost end (GoesOnBy c it begun begun unit between after end)) (sym is)
+      (subst (λ (e : LifeEnd). UnlessLost e (GoesOnBy c (boots.Refused fault) begun begun unit between after e)) (sym ends)
+      (refl, ap (λ (t : Talk). t.ahead) same, ap (λ (t : Talk). t.held) same, refl))
+
+-- ---- the lines of lives one after the other
+
+pub grown_none : (held : Option (List ℕ)) → HasGrown held held
+grown_none held = ([], nothing_more held)
+
+module _ {B : Type 0} {b : Ghosts B} (c : Config) where
+  rest_of : (boot : Boot) (begun last : Store B b) (unit : UnitView) (before after : Talk) (end : LifeEnd) → GoesOnBy c boot begun last unit before after end → HasGrown before.held after.held
+  rest_of (boots.Started number state) begun last unit before after end goes = (answers_of goes.heard, goes.written)
+  rest_of boots.Dark begun last unit before after end goes = (answers_of goes.1.heard, goes.1.written)
+  rest_of (boots.Refused fault) begun last unit before after end goes = subst (HasGrown before.held) (sym goes.2) (grown_none before.held)
+
+module _ {B : Type 0} {b : Ghosts B} (start : Option (List ℕ)) (c : Config) (number status : ℕ) (before : BlocksState) (last : Store B b) (unit : UnitView) (from after : Talk) (end : LifeEnd)
+    (lived : IsLifeLived c number status before last unit from after end) (grown : HasGrown start from.held) where
+  abbrev Said : LifeEnd → Type 0
+  Said e = (t : Talk) × Says (boot_line number lived.boot) from t × GoesOnBy c lived.boot lived.begun last unit t after e
+
+  life_text : (e : LifeEnd) → Said e → (rest : List ℕ) × Appends from.held after.held (boot_line number lived.boot ++ rest)
+  life_text e (t, says, goes) =
+      let rest = rest_of c lived.boot lived.begun last unit t after e goes in
+      (rest.0, appends_more from.held t.held after.held (boot_line number lived.boot) rest.0 says.written rest.1)
+
+  -- The lines of a life behind those before it.
+  pub grown_life : end ≡ Power → HasGrown start after.held
+  grown_life is =
+      let text = life_text Power (subst (λ e. UnlessLost e (Said e)) is lived.said) in
+      (grown.0 ++ (boot_line number lived.boot ++ text.0), appends_more start from.held after.held grown.0 (boot_line number lived.boot ++ text.0) grown.1 text.1)
+
+  -- The last life.
+  pub session_said : end ≡ Ended → (boot : Boot) × (status ≡ status_by boot) × IsSessionSaid start after.held boot
+  session_said is =
+      let text = life_text Ended (subst (λ e. UnlessLost e (Said e)) is lived.said) in (
+        lived.boot,
+        lived.status_is,
+        record {
+          number = number;
+          earlier = grown.0;
+          rest = text.0;
+          said = appends_more start from.held after.held grown.0 (boot_line number lived.boot ++ text.0) grown.1 text.1;
+        },
+      )
+
+  -- A life whose source failed, or whose sink did.
+  pub unread_rose : end ≡ Unread → HasGrown start after.held × Rose from.read_faults after.read_faults
+  unread_rose is =
+      let said = subst (λ e. UnlessLost e (Said e)) is lived.said in
+      let text = life_text Unread said in (
+        (grown.0 ++ (boot_line number lived.boot ++ text.0), appends_more start from.held after.held grown.0 (boot_line number lived.boot ++ text.0) grown.1 text.1),
+        subst (λ n. Rose n after.read_faults) said.1.read_faults (rose_of lived.boot said.0 said.2),
+      )
+    where
+      rose_of : (how : Boot) (t : Talk) → GoesOnBy c how lived.begun last unit t after Unread → Rose t.read_faults after.read_faults
+      rose_of (boots.Started generation state) t goes = goes.ended
+      rose_of boots.Dark t goes = goes.1.ended
+      rose_of (boots.Refused fault) t goes = absurd (cc goes.3)
+
+  pub unwritten_rose : end ≡ Unwritten → Rose from.write_faults after.write_faults
+  unwritten_rose is = subst (IsLostFor from.write_faults after.write_faults) is lived.lost

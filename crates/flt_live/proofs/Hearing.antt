@@ -1,0 +1,312 @@
+-- Lines that a life took, one more, and why it ended.
+use Rattle.std.proofs.Common.{◌≡◌, ◌∙◌, ℕ, ◌≤◌, ◌++◌, List, [], ◌∷◌, Option, Some, None, Result, Ok, Err, inl, inr, refl, sym, ap, subst, arith}
+use Rattle.std.specs.Prelude.{◌≢◌, ◌⊎◌, IfOk, OnOk, take}
+use Rattle.std.proofs.lemmas.List.{append-nil}
+use Rattle.std.specs.Io.KnownBytes.{Appends, Consumes, IsAtEnd}
+use Rattle.flt_config.specs.declared.config.Config.{Config}
+use Rattle.flt_dcm.specs.Unit.{UnitView}
+use Rattle.flt_flash.specs.declared.blocks.Blocks.{Ghosts}
+use Rattle.flt_io.specs.Fault.{Rose}
+use Rattle.flt_io.specs.Written.{Writes}
+use Rattle.flt_io.specs.declared.stream.StreamFault.{StreamFault}
+use Rattle.flt_io.specs.declared.stream.StreamFault.TheVariants as streams
+use Rattle.flt_queue.specs.declared.queue.JobQueue.{JobQueue}
+use Rattle.flt_queue.specs.Stands as standing
+use Rattle.flt_store.specs.declared.store.Store.{Store}
+use Rattle.flt_store_model.specs.Holding.{Generation}
+use Rattle.flt_life_model.specs.declared.answer.StepAnswer.TheVariants.{Dark}
+use Rattle.flt_lives.specs.Living.{IsLiving}
+use Rattle.flt_live.specs.declared.line.Answered.{Answered}
+use Rattle.flt_live.specs.declared.line.Answered.TheVariants as told
+use Rattle.flt_live.specs.declared.line.Due.{Due}
+use Rattle.flt_live.specs.declared.line.Due.TheVariants as due
+use Rattle.flt_live.specs.declared.living.LifeEnd.{LifeEnd}
+use Rattle.flt_live.specs.declared.living.LifeEnd.TheVariants as ends
+use Rattle.flt_live.specs.declared.reader.Line.{Line}
+use Rattle.flt_live.specs.declared.reader.Line.TheVariants.{Fed, Cut, Ended}
+use Rattle.flt_live.specs.Ahead.{TakesLine, end_of, text_of}
+use Rattle.flt_live.specs.Answered.{Answers, IsDarkLineAnswered, IsLineAnswered, IsToldBy, LeavesAll, dark_line}
+use Rattle.flt_live.specs.Due.{due_at}
+use Rattle.flt_live.specs.Heard.{AreHeard, ComesTo, Heard, IsOneLine, Talk, answers_of, bytes_of, talk, text_in}
+use Rattle.flt_live.specs.Lived.{AreDark, EndsBy, IsLostFor, TakesDarkLines, TakesLines, UnlessLost, lost_by}
+use Rattle.flt_live.specs.Made.{IsMidway, Made}
+use Rattle.flt_live.proofs.Taking.{then_takes}
+use Rattle.flt_live.proofs.Writings.{appends_more, nothing_more}
+
+-- ---- a line that was taken
+
+pub one_line : (before after : Option (List ℕ)) (ended : Line) (kept : List ℕ) (taken : TakesLine before after ended kept) → ended ≢ Ended → IsOneLine ended taken.whole
+one_line before after Fed kept taken not_ended = taken.one
+one_line before after Cut kept taken not_ended = (taken.one, taken.end.0)
+one_line before after Ended kept taken not_ended = absurd (not_ended refl)
+
+-- It is told as answered, or as a `power`.
+not_power : (what : Due) → IsToldBy what told.Line → what ≢ due.Power
+not_power due.Nothing is = λ same. absurd (cc same)
+not_power (due.Refuse refusal) is = λ same. absurd (cc same)
+not_power (due.Make step) is = λ same. absurd (cc same)
+not_power due.Power is = absurd (cc is)
+
+is_power : (what : Due) → IsToldBy what told.Power → what ≡ due.Power
+is_power due.Nothing is = absurd (cc is)
+is_power (due.Refuse refusal) is = absurd (cc is)
+is_power (due.Make step) is = absurd (cc is)
+is_power due.Power is = refl
+
+told_by : (what : Due) (result : Result Answered StreamFault) (answered : Answered) → result ≡ Ok answered → IfOk result (IsToldBy what) → IsToldBy what answered
+told_by what result answered is may = subst (λ r. IfOk r (IsToldBy what)) is may
+
+-- It was written whole.
+whole : {K T : Type 0} (held : K → Option (List ℕ)) (count : K → ℕ) (before after : K) (text : List ℕ) (result : Result T StreamFault) (value : T) → result ≡ Ok value
+    → Writes held count before after text result → Appends (held before) (held after) text
+whole held count before after text result value is writes = subst (λ r. OnOk r (Appends (held before) (held after) text)) is writes.ok
+
+-- Nothing is taken at the end.
+none_taken : (before after : Option (List ℕ)) (kept : List ℕ) → TakesLine before after Ended kept → Consumes before after []
+none_taken before after kept taken = subst (Consumes before after) (ap (λ l. l ++ []) taken.end.0) taken.taken
+
+-- ---- counts of faults
+
+pub rose_later : (first before after : ℕ) → first ≤ before → Rose before after → Rose first after
+rose_later first before after later rose = omega (arith, later, rose)
+
+-- ---- a life that was lost
+
+pub lost_anyway : (fault : StreamFault) (end : LifeEnd) (fact : Type 0) → end ≡ lost_by fault → UnlessLost end fact
+lost_anyway streams.Memory end fact is = subst (λ (e : LifeEnd). UnlessLost e fact) (sym is) tt
+lost_anyway streams.Failed end fact is = subst (λ (e : LifeEnd). UnlessLost e fact) (sym is) tt
+
+pub lost_for : (first before after : ℕ) (fault : StreamFault) (end : LifeEnd) → end ≡ lost_by fault → first ≤ before → (fault ≡ streams.Failed → Rose before after) → IsLostFor first after end
+lost_for first before after streams.Memory end is later rose = subst (IsLostFor first after) (sym is) tt
+lost_for first before after streams.Failed end is later rose = subst (IsLostFor first after) (sym is) (rose_later first before after later (rose refl))
+
+pub failed_rose : {K T : Type 0} (held : K → Option (List ℕ)) (count : K → ℕ) (before after : K) (text : List ℕ) (result : Result T StreamFault) (fault : StreamFault)
+    → result ≡ Err fault → Writes held count before after text result → fault ≡ streams.Failed → Rose (count before) (count after)
+failed_rose held count before after text result fault is writes same = writes.cause (is ∙ ap Err same)
+
+-- ---- the lines so far, in a life that was started
+
+module _ {B : Type 0} {b : Ghosts B} (c : Config) (first : Generation) where
+  pub record IsGoing (before now : Talk) (unit : UnitView) (queue : JobQueue) (store : Store B b) : Type 0 where
+    pub heard : List Heard
+    pub made : List Made
+    pub are : AreHeard c heard made
+    pub midway : IsMidway c first made unit queue store
+    pub written : Appends before.held now.held (answers_of heard)
+    pub read : Consumes before.ahead now.ahead (bytes_of heard)
+
+  pub going_first : (now : Talk) (unit : UnitView) (queue : JobQueue) (store : Store B b) → IsLiving c first [] [] unit store → standing.Stands c.blocks [] queue → IsGoing now now unit queue store
+  going_first now unit queue store living stands = record {
+    heard = [];
+    made = [];
+    are = refl;
+    midway = record { jobs = []; living = living; queued = stands; answered = refl };
+    written = nothing_more now.held;
+    read = none_more now.ahead;
+  }
+    where
+      none_more : (ahead : Option (List ℕ)) → Consumes ahead ahead []
+      none_more None = tt
+      none_more (Some bytes) = refl
+
+  -- Nothing changed.
+  moved : (made : List Made) (unit next_unit : UnitView) (queue next_queue : JobQueue) (store next_store : Store B b) → next_unit ≡ unit → next_queue ≡ queue → next_store ≡ store
+      → IsMidway c first made unit queue store → IsMidway c first made next_unit next_queue next_store
+  moved made unit next_unit queue next_queue store next_store unit_is queue_is store_is mid =
+      subst (λ (u : UnitView). IsMidway c first made u next_queue next_store) (sym unit_is)
+      (subst (λ (q : JobQueue). IsMidway c first made unit q next_store) (sym queue_is)
+      (subst (λ (s : Store B b). IsMidway c first made unit queue s) (sym store_is) mid))
+
+  -- What a line comes to, by what is due.
+  comes : (made : List Made) (what : Due) (line : List ℕ) (unit next_unit : UnitView) (queue next_queue : JobQueue) (store next_store : Store B b) → what ≢ due.Power
+      → Answers c what line unit next_unit queue next_queue store next_store → IsMidway c first made unit queue store
+      → (more : List Made) × ComesTo what line made more × IsMidway c first more next_unit next_queue next_store
+  comes made due.Nothing line unit next_unit queue next_queue store next_store other (is, unit_is, queue_is, store_is) mid =
+      (made, (is, refl), moved made unit next_unit queue next_queue store next_store unit_is queue_is store_is mid)
+  comes made (due.Refuse refusal) line unit next_unit queue next_queue store next_store other (is, unit_is, queue_is, store_is) mid =
+      (made, (is, refl), moved made unit next_unit queue next_queue store next_store unit_is queue_is store_is mid)
+  comes made (due.Make step) line unit next_unit queue next_queue store next_store other (answer, is, makes) mid =
+      ((step, answer) ∷ made, (answer, is, refl), makes first made mid)
+  comes made due.Power line unit next_unit queue next_queue store next_store other answers mid = absurd (other refl)
+
+  -- A `power` is not answered.
+  stays : (made : List Made) (what : Due) (line : List ℕ) (unit next_unit : UnitView) (queue next_queue : JobQueue) (store next_store : Store B b) → what ≡ due.Power
+      → Answers c what line unit next_unit queue next_queue store next_store → IsMidway c first made unit queue store
+      → (line ≡ []) × IsMidway c first made next_unit next_queue next_store
+  stays made due.Nothing line unit next_unit queue next_queue store next_store is answers mid = absurd (cc is)
+  stays made (due.Refuse refusal) line unit next_unit queue next_queue store next_store is answers mid = absurd (cc is)
+  stays made (due.Make step) line unit next_unit queue next_queue store next_store is answers mid = absurd (cc is)
+  stays made due.Power line unit next_unit queue next_queue store next_store is (none, unit_is, queue_is, store_is) mid =
+      (none, moved made unit next_unit queue next_queue store next_store unit_is queue_is store_is mid)
+
+  -- An answer that is Ok was given.
+  given : (what : Due) (line : List ℕ) (unit next_unit : UnitView) (queue next_queue : JobQueue) (store next_store : Store B b) (result : Result Answered StreamFault) (answered : Answered)
+      → result ≡ Ok answered → Answers c what line unit next_unit queue next_queue store next_store ⊎ LeavesAll result line unit next_unit queue next_queue store next_store
+      → Answers c what line unit next_unit queue next_queue store next_store
+  given what line unit next_unit queue next_queue store next_store result answered is (inl answers) = answers
+  given what line unit next_unit queue next_queue store next_store result answered is (inr leaves) = absurd (cc (sym is ∙ leaves.0))
+
+  module _ {K : Type 0} (held : K → Option (List ℕ)) (count : K → ℕ) (sink next_sink : K) (start : Talk) (ahead next_ahead : Option (List ℕ)) (reads next_reads : ℕ)
+      (unit next_unit : UnitView) (queue next_queue : JobQueue) (store next_store : Store B b)
+      (ended : Line) (kept text : List ℕ) (taken : TakesLine ahead next_ahead ended kept) (not_ended : ended ≢ Ended) (text_is : text ≡ text_of ended kept)
+      (going : IsGoing start (talk ahead reads (held sink) (count sink)) unit queue store)
+      (result : Result Answered StreamFault) (answered : IsLineAnswered c (due_at c text) held count sink next_sink unit next_unit queue next_queue store next_store result) where
+    abbrev heard : Heard
+    heard = record { whole = taken.whole; ended = ended; answer = answered.line }
+
+    due_is : due_at c text ≡ due_at c (text_in heard)
+    due_is = ap (due_at c) (text_is ∙ ap (text_of ended) taken.is)
+
+    -- One line more was answered.
+    pub going_more : result ≡ Ok told.Line → IsGoing start (talk next_ahead next_reads (held next_sink) (count next_sink)) next_unit next_queue next_store
+    going_more is =
+        let answers = given (due_at c text) answered.line unit next_unit queue next_queue store next_store result told.Line is answered.answers in
+        let other = not_power (due_at c text) (told_by (due_at c text) result told.Line is answered.told) in
+        let come = comes going.made (due_at c text) answered.line unit next_unit queue next_queue store next_store other answers going.midway in
+        record {
+          heard = heard ∷ going.heard;
+          made = come.0;
+          are = (going.made, going.are, one_line ahead next_ahead ended kept taken not_ended, subst (λ (what : Due). ComesTo what answered.line going.made come.0) due_is come.1);
+          midway = come.2;
+          written = appends_more start.held (held sink) (held next_sink) (answers_of going.heard) answered.line going.written (whole held count sink next_sink answered.line result told.Line is answered.written);
+          read = then_takes start.ahead ahead next_ahead (bytes_of going.heard) (taken.whole ++ end_of ended) going.read taken.taken;
+        }
+
+    -- It was a `power`.
+    pub power_ends : result ≡ Ok told.Power → TakesLines c first start (talk next_ahead next_reads (held next_sink) (count next_sink)) next_unit next_store ends.Power
+    power_ends is =
+        let answers = given (due_at c text) answered.line unit next_unit queue next_queue store next_store result told.Power is answered.answers in
+        let power = is_power (due_at c text) (told_by (due_at c text) result told.Power is answered.told) in
+        let left = stays going.made (due_at c text) answered.line unit next_unit queue next_queue store next_store power answers going.midway in
+        let more = appends_more start.held (held sink) (held next_sink) (answers_of going.heard) answered.line going.written (whole held count sink next_sink answered.line result told.Power is answered.written) in
+        record {
+          heard = going.heard;
+          made = going.made;
+          queue = next_queue;
+          are = going.are;
+          midway = left.1;
+          written = subst (Appends start.held (held next_sink)) (ap (λ l. answers_of going.heard ++ l) left.0 ∙ append-nil (answers_of going.heard)) more;
+          ended = (
+            heard,
+            one_line ahead next_ahead ended kept taken not_ended,
+            sym due_is ∙ power,
+            then_takes start.ahead ahead next_ahead (bytes_of going.heard) (taken.whole ++ end_of ended) going.read taken.taken,
+          );
+        }
+
+  module _ (start now next : Talk) (unit : UnitView) (queue : JobQueue) (store : Store B b) (going : IsGoing start now unit queue store) (same : next.held ≡ now.held) where
+    still : Appends start.held next.held (answers_of going.heard)
+    still = subst (λ held. Appends start.held held (answers_of going.heard)) (sym same) going.written
+
+    -- There was no line more.
+    pub end_ends : (kept : List ℕ) → TakesLine now.ahead next.ahead Ended kept → TakesLines c first start next unit store ends.Ended
+    end_ends kept taken = record {
+      heard = going.heard;
+      made = going.made;
+      queue = queue;
+      are = going.are;
+      midway = going.midway;
+      written = still;
+      ended = (
+        subst (Consumes start.ahead next.ahead) (append-nil (bytes_of going.heard)) (then_takes start.ahead now.ahead next.ahead (bytes_of going.heard) [] going.read (none_taken now.ahead next.ahead kept taken)),
+        taken.end.1,
+      );
+    }
+
+    -- The source failed.
+    pub unread_ends : Rose start.read_faults next.read_faults → TakesLines c first start next unit store ends.Unread
+    unread_ends rose = record { heard = going.heard; made = going.made; queue = queue; are = going.are; midway = going.midway; written = still; ended = rose }
+
+-- ---- the lines so far, in a dark life
+
+module _ (c : Config) where
+  pub record IsDarkGoing (before now : Talk) : Type 0 where
+    pub heard : List Heard
+    pub made : List Made
+    pub are : AreHeard c heard made
+    pub dark : AreDark made
+    pub written : Appends before.held now.held (answers_of heard)
+    pub read : Consumes before.ahead now.ahead (bytes_of heard)
+
+  pub dark_first : (now : Talk) → IsDarkGoing now now
+  dark_first now = record { heard = []; made = []; are = refl; dark = tt; written = nothing_more now.held; read = none_more now.ahead }
+    where
+      none_more : (ahead : Option (List ℕ)) → Consumes ahead ahead []
+      none_more None = tt
+      none_more (Some bytes) = refl
+
+  dark_comes : (made : List Made) (what : Due) (line : List ℕ) → what ≢ due.Power → line ≡ dark_line what → AreDark made → (more : List Made) × ComesTo what line made more × AreDark more
+  dark_comes made due.Nothing line other is dark = (made, (is, refl), dark)
+  dark_comes made (due.Refuse refusal) line other is dark = (made, (is, refl), dark)
+  dark_comes made (due.Make step) line other is dark = ((step, Dark) ∷ made, (Dark, is, refl), (refl, dark))
+  dark_comes made due.Power line other is dark = absurd (other refl)
+
+  dark_stays : (what : Due) (line : List ℕ) → what ≡ due.Power → line ≡ dark_line what → line ≡ []
+  dark_stays what line power is = is ∙ ap dark_line power
+
+  dark_given : (what : Due) (line : List ℕ) (result : Result Answered StreamFault) (answered : Answered) → result ≡ Ok answered → (line ≡ dark_line what) ⊎ ((result ≡ Err streams.Memory) × (line ≡ []))
+      → line ≡ dark_line what
+  dark_given what line result answered is (inl line_is) = line_is
+  dark_given what line result answered is (inr leaves) = absurd (cc (sym is ∙ leaves.0))
+
+  module _ {K : Type 0} (held : K → Option (List ℕ)) (count : K → ℕ) (sink next_sink : K) (start : Talk) (ahead next_ahead : Option (List ℕ)) (reads next_reads : ℕ)
+      (ended : Line) (kept text : List ℕ) (taken : TakesLine ahead next_ahead ended kept) (not_ended : ended ≢ Ended) (text_is : text ≡ text_of ended kept)
+      (going : IsDarkGoing start (talk ahead reads (held sink) (count sink)))
+      (result : Result Answered StreamFault) (answered : IsDarkLineAnswered (due_at c text) held count sink next_sink result) where
+    abbrev dark_heard : Heard
+    dark_heard = record { whole = taken.whole; ended = ended; answer = answered.line }
+
+    dark_due_is : due_at c text ≡ due_at c (text_in dark_heard)
+    dark_due_is = ap (due_at c) (text_is ∙ ap (text_of ended) taken.is)
+
+    pub dark_more : result ≡ Ok told.Line → IsDarkGoing start (talk next_ahead next_reads (held next_sink) (count next_sink))
+    dark_more is =
+        let other = not_power (due_at c text) (told_by (due_at c text) result told.Line is answered.told) in
+        let come = dark_comes going.made (due_at c text) answered.line other (dark_given (due_at c text) answered.line result told.Line is answered.is) going.dark in
+        record {
+          heard = dark_heard ∷ going.heard;
+          made = come.0;
+          are = (going.made, going.are, one_line ahead next_ahead ended kept taken not_ended, subst (λ (what : Due). ComesTo what answered.line going.made come.0) dark_due_is come.1);
+          dark = come.2;
+          written = appends_more start.held (held sink) (held next_sink) (answers_of going.heard) answered.line going.written (whole held count sink next_sink answered.line result told.Line is answered.written);
+          read = then_takes start.ahead ahead next_ahead (bytes_of going.heard) (taken.whole ++ end_of ended) going.read taken.taken;
+        }
+
+    pub dark_power_ends : result ≡ Ok told.Power → TakesDarkLines c start (talk next_ahead next_reads (held next_sink) (count next_sink)) ends.Power
+    dark_power_ends is =
+        let power = is_power (due_at c text) (told_by (due_at c text) result told.Power is answered.told) in
+        let none = dark_stays (due_at c text) answered.line power (dark_given (due_at c text) answered.line result told.Power is answered.is) in
+        let more = appends_more start.held (held sink) (held next_sink) (answers_of going.heard) answered.line going.written (whole held count sink next_sink answered.line result told.Power is answered.written) in
+        record {
+          heard = going.heard;
+          made = going.made;
+          are = going.are;
+          dark = going.dark;
+          written = subst (Appends start.held (held next_sink)) (ap (λ l. answers_of going.heard ++ l) none ∙ append-nil (answers_of going.heard)) more;
+          ended = (
+            dark_heard,
+            one_line ahead next_ahead ended kept taken not_ended,
+            sym dark_due_is ∙ power,
+            then_takes start.ahead ahead next_ahead (bytes_of going.heard) (taken.whole ++ end_of ended) going.read taken.taken,
+          );
+        }
+
+  module _ (start now next : Talk) (going : IsDarkGoing start now) (same : next.held ≡ now.held) where
+    dark_still : Appends start.held next.held (answers_of going.heard)
+    dark_still = subst (λ held. Appends start.held held (answers_of going.heard)) (sym same) going.written
+
+    pub dark_end_ends : (kept : List ℕ) → TakesLine now.ahead next.ahead Ended kept → TakesDarkLines c start next ends.Ended
+    dark_end_ends kept taken = record {
+      heard = going.heard;
+      made = going.made;
+      are = going.are;
+      dark = going.dark;
+      written = dark_still;
+      ended = (
+        subst (Consumes start.ahead next.ahead) (append-nil (bytes_of going.heard)) (then_takes start.ahead now.ahead next.ahead (bytes_of going.heard) [] going.read (none_taken now.ahead next.ahead kept taken)),
+        taken.end.1,
+      );
+    }
+
+    pub dark_unread_ends : Rose start.read_faults next.read_faults → TakesDarkLines c start next ends.Unread
+    dark_unread_ends rose = record { heard = going.heard; made = going.made; are = going.are; dark = going.dark; written = dark_still; ended = rose }

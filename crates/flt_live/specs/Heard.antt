@@ -1,0 +1,74 @@
+-- The lines that a life read, and what each came to; all lists begin with the newest.
+use Rattle.std.specs.Prelude.{◌≡◌, ◌≢◌, ◌<◌, ◌≤◌, All, ℕ, List, [], ◌∷◌, ◌++◌, length, take, Option}
+use Rattle.std.specs.Io.KnownBytes.{Appends}
+use Rattle.flt_config.specs.declared.config.Config.{Config}
+use Rattle.flt_life_model.specs.Answers.{Told}
+use Rattle.flt_report.specs.Answer.{step_line}
+use Rattle.flt_live.specs.declared.line.Due.{Due}
+use Rattle.flt_live.specs.declared.line.Due.TheVariants as due
+use Rattle.flt_live.specs.declared.reader.Line.{Line}
+use Rattle.flt_live.specs.declared.reader.Line.TheVariants.{Fed, Cut, Ended}
+use Rattle.flt_live.specs.Ahead.{end_of, text_of}
+use Rattle.flt_live.specs.Due.{due_at, refusal_line}
+use Rattle.flt_live.specs.Made.{Made}
+
+-- What a life reads from and writes to: the bytes that are ahead of it and those that the sink holds, where these are told, and how often
+-- the source and the sink failed.
+pub record Talk : Type 0 where
+  pub ahead : Option (List ℕ)
+  pub read_faults : ℕ
+  pub held : Option (List ℕ)
+  pub write_faults : ℕ
+
+abbrev pub talk : Option (List ℕ) → ℕ → Option (List ℕ) → ℕ → Talk
+talk ahead read_faults held write_faults = record { ahead = ahead; read_faults = read_faults; held = held; write_faults = write_faults }
+
+-- The counts of faults never fall.
+pub record IsLater (before after : Talk) : Type 0 where
+  pub read : before.read_faults ≤ after.read_faults
+  pub write : before.write_faults ≤ after.write_faults
+
+-- A line was written, and nothing was read.
+pub record Says (line : List ℕ) (before after : Talk) : Type 0 where
+  pub written : Appends before.held after.held line
+  pub ahead : after.ahead ≡ before.ahead
+  pub read_faults : after.read_faults ≡ before.read_faults
+
+-- A line: its bytes but those that ended it, how it ended, and what was written for it.
+pub record Heard : Type 0 where
+  pub whole : List ℕ
+  pub ended : Line
+  pub answer : List ℕ
+
+-- Its text, as far as it is kept.
+abbrev pub text_in : Heard → List ℕ
+text_in heard = text_of heard.ended (take 514 heard.whole)
+
+-- The bytes that lines took.
+abbrev pub bytes_of : List Heard → List ℕ
+bytes_of [] = []
+bytes_of (heard ∷ earlier) = bytes_of earlier ++ (heard.whole ++ end_of heard.ended)
+
+-- What was written for them.
+abbrev pub answers_of : List Heard → List ℕ
+answers_of [] = []
+answers_of (heard ∷ earlier) = answers_of earlier ++ heard.answer
+
+-- A line has no line feed in it, and a byte where none ended it.
+abbrev pub IsOneLine : Line → List ℕ → Type 0
+IsOneLine Fed whole = All (λ byte. byte ≢ 10) whole
+IsOneLine Cut whole = All (λ byte. byte ≢ 10) whole × (0 < length whole)
+IsOneLine Ended whole = ⊥
+
+-- What is written for a line that is no `power`, and the steps that are made with it.
+abbrev pub ComesTo : Due → List ℕ → (before after : List Made) → Type 0
+ComesTo due.Nothing line before after = (line ≡ 10 ∷ []) × (after ≡ before)
+ComesTo (due.Refuse refusal) line before after = (line ≡ refusal_line refusal) × (after ≡ before)
+ComesTo (due.Make step) line before after = (told : Told) × (line ≡ step_line step told) × (after ≡ (step, told) ∷ before)
+ComesTo due.Power line before after = ⊥
+
+-- Each of these lines was answered by itself, and these are the steps that they made.
+abbrev pub AreHeard : Config → List Heard → List Made → Type 0
+AreHeard c [] made = made ≡ []
+AreHeard c (heard ∷ earlier) made =
+    (before : List Made) × AreHeard c earlier before × IsOneLine heard.ended heard.whole × ComesTo (due_at c (text_in heard)) heard.answer before made

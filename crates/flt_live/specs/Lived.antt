@@ -1,0 +1,106 @@
+-- What the lives of a session come to, and the status by how they began.
+use Rattle.std.specs.Prelude.{◌≡◌, ℕ, List, [], ◌∷◌, ◌++◌, Option}
+use Rattle.std.specs.Io.KnownBytes.{Appends, Consumes, IsAtEnd}
+use Rattle.flt_config.specs.declared.config.Config.{Config}
+use Rattle.flt_dcm.specs.Unit.{UnitView}
+use Rattle.flt_flash.specs.Blocks.{BlocksState}
+use Rattle.flt_flash.specs.declared.blocks.Blocks.{Ghosts}
+use Rattle.flt_io.specs.Fault.{Rose}
+use Rattle.flt_io.specs.declared.stream.StreamFault.{StreamFault}
+use Rattle.flt_io.specs.declared.stream.StreamFault.TheVariants as streams
+use Rattle.flt_queue.specs.declared.queue.JobQueue.{JobQueue}
+use Rattle.flt_store.specs.declared.store.Store.{Store}
+use Rattle.flt_store.specs.Store.{numbered}
+use Rattle.flt_store_model.specs.Holding.{Generation}
+use Rattle.flt_life_model.specs.declared.answer.StepAnswer.TheVariants as answers
+use Rattle.flt_life_model.specs.declared.life.Boot.{Boot}
+use Rattle.flt_life_model.specs.declared.life.Boot.TheVariants as boots
+use Rattle.flt_life_model.specs.Statuses.{status_by}
+use Rattle.flt_report.specs.Boot.{boot_line}
+use Rattle.flt_live.specs.declared.line.Due.TheVariants as due
+use Rattle.flt_live.specs.declared.living.LifeEnd.{LifeEnd}
+use Rattle.flt_live.specs.declared.living.LifeEnd.TheVariants.{Power, Ended, Unread, Unwritten, Memory}
+use Rattle.flt_live.specs.Begun.{IsBegunBy}
+use Rattle.flt_live.specs.Due.{due_at}
+use Rattle.flt_live.specs.Heard.{AreHeard, Heard, IsLater, IsOneLine, Says, Talk, answers_of, bytes_of, text_in}
+use Rattle.flt_live.specs.Made.{IsMidway, Made}
+
+-- How a life ends whose line was not written.
+abbrev pub lost_by : StreamFault → LifeEnd
+lost_by streams.Memory = Memory
+lost_by streams.Failed = Unwritten
+
+-- What holds unless a life ended for a sink that failed, or for memory.
+abbrev pub UnlessLost : LifeEnd → Type 0 → Type 0
+UnlessLost Power fact = fact
+UnlessLost Ended fact = fact
+UnlessLost Unread fact = fact
+UnlessLost Unwritten fact = Unit {0}
+UnlessLost Memory fact = Unit {0}
+
+-- A life ends for its sink only if the count of the sink's faults rose.
+abbrev pub IsLostFor : ℕ → ℕ → LifeEnd → Type 0
+IsLostFor before after Unwritten = Rose before after
+IsLostFor before after _ = Unit {0}
+
+-- Why a life ended behind these lines, and that it took no byte more: the next one is a `power`; there is no more; or the source failed.
+abbrev pub EndsBy : Config → List Heard → (before after : Talk) → LifeEnd → Type 0
+EndsBy c heard before after Power = (last : Heard) × IsOneLine last.ended last.whole × (due_at c (text_in last) ≡ due.Power)
+    × Consumes before.ahead after.ahead (bytes_of (last ∷ heard))
+EndsBy c heard before after Ended = Consumes before.ahead after.ahead (bytes_of heard) × IsAtEnd after.ahead
+EndsBy c heard before after Unread = Rose before.read_faults after.read_faults
+EndsBy c heard before after Unwritten = Unit {0}
+EndsBy c heard before after Memory = Unit {0}
+
+-- No step of a dark life is made.
+abbrev pub AreDark : List Made → Type 0
+AreDark [] = Unit {0}
+AreDark (made ∷ earlier) = (made.1 ≡ answers.Dark) × AreDark earlier
+
+-- A dark life took these lines.
+pub record TakesDarkLines (c : Config) (before after : Talk) (end : LifeEnd) : Type 0 where
+  pub heard : List Heard
+  pub made : List Made
+  pub are : AreHeard c heard made
+  pub dark : AreDark made
+  pub written : Appends before.held after.held (answers_of heard)
+  pub ended : EndsBy c heard before after end
+
+module _ {B : Type 0} {b : Ghosts B} where
+  -- A life that began with this generation took these lines: the machine, the queue and the store stand for the steps that they made.
+  pub record TakesLines (c : Config) (first : Generation) (before after : Talk) (unit : UnitView) (store : Store B b) (end : LifeEnd) : Type 0 where
+    pub heard : List Heard
+    pub made : List Made
+    pub queue : JobQueue
+    pub are : AreHeard c heard made
+    pub midway : IsMidway c first made unit queue store
+    pub written : Appends before.held after.held (answers_of heard)
+    pub ended : EndsBy c heard before after end
+
+  -- What follows the line that begins a life, by how it began. A refused life reads nothing, and leaves the store as a dark one does.
+  abbrev pub GoesOnBy : Config → Boot → (begun last : Store B b) → UnitView → (before after : Talk) → LifeEnd → Type 0
+  GoesOnBy c (boots.Started number state) begun last unit before after end = TakesLines c (numbered number state) before after unit last end
+  GoesOnBy c boots.Dark begun last unit before after end = (last ≡ begun) × TakesDarkLines c before after end
+  GoesOnBy c (boots.Refused fault) begun last unit before after end = (last ≡ begun) × (after.ahead ≡ before.ahead) × (after.held ≡ before.held) × (end ≡ Ended)
+
+  -- A life of this number, from its power-up on. Its status is that of how it began. The line that says so was written first, and then one
+  -- line for each that was read; unless the sink failed, or memory ran out.
+  pub record IsLifeLived (c : Config) (number status : ℕ) (before : BlocksState) (last : Store B b) (unit : UnitView) (from after : Talk) (end : LifeEnd) : Type 0 where
+    pub boot : Boot
+    pub status_is : status ≡ status_by boot
+    pub begun : Store B b
+    pub is : IsBegunBy c before boot begun
+    pub said : UnlessLost end ((between : Talk) × Says (boot_line number boot) from between × GoesOnBy c boot begun last unit between after end)
+    pub lost : IsLostFor from.write_faults after.write_faults end
+    pub later : IsLater from after
+
+-- Whole lines were written, and no part of another.
+abbrev pub HasGrown : Option (List ℕ) → Option (List ℕ) → Type 0
+HasGrown before after = (text : List ℕ) × Appends before after text
+
+-- The lines of lives were written, of which the last began so.
+pub record IsSessionSaid (before after : Option (List ℕ)) (boot : Boot) : Type 0 where
+  pub number : ℕ
+  pub earlier : List ℕ
+  pub rest : List ℕ
+  pub said : Appends before after (earlier ++ (boot_line number boot ++ rest))

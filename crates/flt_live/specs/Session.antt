@@ -1,0 +1,149 @@
+-- How a session ends, with its cause: what is told at its end, and which status says so.
+use Rattle.std.specs.Prelude.{◌≡◌, ◌≤◌, ◌⊎◌, ℕ, List, [], ◌∷◌, ◌++◌, Bool, true, false, codes, Option, Result, Ok, Err}
+use Rattle.std.specs.Str.{bytes_eq}
+use Rattle.std.specs.Io.KnownBytes.{Appends, IsAtEnd}
+use Rattle.flt_config.specs.declared.config.DidUse.{DidUse}
+use Rattle.flt_file.specs.declared.opening.OpenFault.{OpenFault}
+use Rattle.flt_file.specs.declared.opening.OpenFault.TheVariants as shelves
+use Rattle.flt_io.specs.Fault.{Rose}
+use Rattle.flt_io.specs.declared.stream.StreamFault.{StreamFault}
+use Rattle.flt_io.specs.declared.stream.StreamFault.TheVariants as streams
+use Rattle.flt_script.specs.Fault.{script_fault_line, unread_line}
+use Rattle.flt_script.specs.Fetched.{AreNoScript, AreScript, HasLostRead}
+use Rattle.flt_script.specs.Script.{ScriptContent}
+use Rattle.flt_script.specs.declared.fault.ScriptFault.{ScriptFault}
+use Rattle.flt_step.specs.declared.step.Step.{Step}
+use Rattle.flt_step.specs.Part.{PartOf}
+use Rattle.flt_life_model.specs.declared.life.Boot.{Boot}
+use Rattle.flt_life_model.specs.Statuses.{status_by}
+use Rattle.flt_live.specs.declared.session.End.{End}
+use Rattle.flt_live.specs.declared.session.End.TheVariants as ends
+use Rattle.flt_live.specs.Heard.{Talk}
+use Rattle.flt_live.specs.Lived.{HasGrown, IsSessionSaid}
+
+-- The bytes of the configuration that are left, before and after it was read, and how often its source failed.
+pub record Reading : Type 0 where
+  pub left : Option (List ℕ)
+  pub left_after : Option (List ℕ)
+  pub faults : ℕ
+  pub faults_after : ℕ
+
+abbrev pub reading : (left left_after : Option (List ℕ)) (faults faults_after : ℕ) → Reading
+reading left left_after faults faults_after = record { left = left; left_after = left_after; faults = faults; faults_after = faults_after }
+
+-- How a session ends whose sink did not fail, and whose memory did not run out.
+pub data SessionEnd : Type 0 where
+  -- The configuration could not be read, is refused, or does something.
+  Unreadable : SessionEnd
+  Refused : ScriptFault → SessionEnd
+  Other : SessionEnd
+  -- The flash of a life was not given.
+  Closed : OpenFault → SessionEnd
+  -- The source of the lines failed.
+  Unread : SessionEnd
+  -- The source ended, or a life was refused; the last life began so.
+  Ended : Boot → SessionEnd
+
+-- The status of a flash that was not given.
+abbrev pub status_of_shelf : OpenFault → ℕ
+status_of_shelf (shelves.Size found needed) = 14
+status_of_shelf shelves.InUse = 15
+status_of_shelf shelves.Memory = 7
+status_of_shelf _ = 16
+
+-- The status that is due.
+abbrev pub status_due : SessionEnd → ℕ
+status_due Unreadable = 3
+status_due (Refused fault) = 2
+status_due Other = 2
+status_due (Closed fault) = status_of_shelf fault
+status_due Unread = 3
+status_due (Ended boot) = status_by boot
+
+-- What was written: one line that says why no life began; or the lines of lives.
+abbrev pub IsTold : (before after : Option (List ℕ)) → SessionEnd → Type 0
+IsTold before after Unreadable = Appends before after unread_line
+IsTold before after (Refused fault) = Appends before after (script_fault_line fault)
+IsTold before after Other = Appends before after (codes "script other" ++ 10 ∷ [])
+IsTold before after (Closed fault) = HasGrown before after
+IsTold before after Unread = HasGrown before after
+IsTold before after (Ended boot) = IsSessionSaid before after boot
+
+-- A script with these lives does nothing: there is one, without a step.
+abbrev pub IsIdle : List (List (PartOf Step)) → Type 0
+IsIdle lives = lives ≡ [] ∷ []
+
+-- Why a session ends so whose configuration is a script with these lives.
+abbrev pub IsEndOf : List (List (PartOf Step)) → (before after : Talk) → SessionEnd → Type 0
+IsEndOf lives before after Unreadable = ⊥
+IsEndOf lives before after (Refused fault) = ⊥
+IsEndOf lives before after Other = ¬ IsIdle lives
+IsEndOf lives before after (Closed fault) = IsIdle lives
+IsEndOf lives before after Unread = IsIdle lives × Rose before.read_faults after.read_faults
+IsEndOf lives before after (Ended boot) = IsIdle lives
+
+-- Memory ran out, or the sink failed.
+abbrev pub IsCutOff : (before after : Talk) → ℕ → Type 0
+IsCutOff before after status = (status ≡ 7) ⊎ ((status ≡ 4) × Rose before.write_faults after.write_faults)
+
+-- An end of this cause, with its status and what was told; or the session was cut off.
+pub record IsEnded (Cause : SessionEnd → Type 0) (before after : Talk) (status : ℕ) : Type 0 where
+  pub end : SessionEnd
+  pub cause : Cause end
+  pub status_is : status ≡ status_due end
+  pub told : IsTold before.held after.held end
+
+abbrev pub EndsFor : (SessionEnd → Type 0) → (before after : Talk) → ℕ → Type 0
+EndsFor Cause before after status = IsEnded Cause before after status ⊎ IsCutOff before after status
+
+-- The bytes of the configuration are a script, of which this holds.
+abbrev pub IfScript : List DidUse → Reading → (ScriptContent → Type 0) → Type 0
+IfScript dids config fact = (script : ScriptContent) × IsAtEnd config.left_after × AreScript dids config.left script × fact script
+
+-- Why a session ends so.
+abbrev pub HasCause : List DidUse → Reading → (before after : Talk) → SessionEnd → Type 0
+HasCause dids config before after Unreadable = Rose config.faults config.faults_after
+HasCause dids config before after (Refused fault) = HasLostRead config.left config.left_after × AreNoScript dids config.left fault
+HasCause dids config before after Other = IfScript dids config (λ script. IsEndOf script.lives before after Other)
+HasCause dids config before after (Closed fault) = IfScript dids config (λ script. IsEndOf script.lives before after (Closed fault))
+HasCause dids config before after Unread = IfScript dids config (λ script. IsEndOf script.lives before after Unread)
+HasCause dids config before after (Ended boot) = IfScript dids config (λ script. IsEndOf script.lives before after (Ended boot))
+
+-- A session by its configuration.
+abbrev pub IsSession : List DidUse → Reading → (before after : Talk) → ℕ → Type 0
+IsSession dids config before after status = EndsFor (HasCause dids config before after) before after status
+
+-- Why lives ended for something else than the end of the source.
+abbrev pub HasFailed : (before after : Talk) → End → Type 0
+HasFailed before after ends.Unread = HasGrown before.held after.held × Rose before.read_faults after.read_faults
+HasFailed before after ends.Unwritten = Rose before.write_faults after.write_faults
+HasFailed before after ends.Memory = Unit {0}
+HasFailed before after (ends.Shelf fault) = HasGrown before.held after.held × (before.write_faults ≤ after.write_faults)
+
+-- The status where a line was written or not.
+abbrev pub status_told : {T : Type 0} → ℕ → Result T StreamFault → ℕ
+status_told status (Ok told) = status
+status_told status (Err streams.Failed) = 4
+status_told status (Err streams.Memory) = 7
+
+-- The words behind the program's name ask for a session: `live`, a configuration, and an image if there is one.
+abbrev pub is_call : List (List ℕ) → Bool
+is_call [] = false
+is_call (word ∷ []) = false
+is_call (word ∷ config ∷ []) = bytes_eq word (codes "live")
+is_call (word ∷ config ∷ image ∷ []) = bytes_eq word (codes "live")
+is_call (word ∷ config ∷ image ∷ next ∷ more) = false
+
+abbrev pub usage_line : List ℕ
+usage_line = codes "usage: faultmem live CONFIG [IMAGE]" ++ 10 ∷ []
+
+-- This text was written and this status given, or the sink failed.
+abbrev pub IsLine : List ℕ → ℕ → (before after : Talk) → ℕ → Type 0
+IsLine line due before after status = ((status ≡ due) × Appends before.held after.held line) ⊎ ((status ≡ 4) × Rose before.write_faults after.write_faults)
+
+-- How the program ends, by whether its words ask for a session: the file of the configuration could not be opened; or it was opened, and
+-- a session was held with what it gave.
+abbrev pub IsProgram : List DidUse → Bool → (before after : Talk) → ℕ → Type 0
+IsProgram dids false before after status = IsLine usage_line 1 before after status
+IsProgram dids true before after status =
+    (IsLine unread_line 3 before after status ⊎ (status ≡ 7)) ⊎ ((config : Reading) × IsSession dids config before after status)
