@@ -1,6 +1,6 @@
 -- How a session ends, and that a script does nothing.
-use Rattle.std.proofs.Common.{◌≡◌, ◌∙◌, ℕ, ◌≤◌, ◌++◌, List, [], ◌∷◌, Bool, Option, Result, Ok, Err, inl, inr, ap, map, sym, subst, refl}
-use Rattle.std.specs.Prelude.{◌↔◌, ◌⊎◌, IsTrue, OnOk, Vec}
+use Rattle.std.proofs.Common.{◌≡◌, ℕ, ◌≤◌, ◌++◌, List, Option, Result, Ok, Err, inl, inr, refl}
+use Rattle.std.specs.Prelude.{◌⊎◌}
 use Rattle.std.specs.Io.KnownBytes.{Appends, IsAtEnd}
 use Rattle.flt_config.specs.declared.config.DidUse.{DidUse}
 use Rattle.flt_script.specs.Fetched.{AreScript}
@@ -9,15 +9,12 @@ use Rattle.flt_io.specs.Fault.{Rose}
 use Rattle.flt_io.specs.Written.{Writes}
 use Rattle.flt_io.specs.declared.stream.StreamFault.{StreamFault}
 use Rattle.flt_io.specs.declared.stream.StreamFault.TheVariants as streams
-use Rattle.flt_step.specs.declared.step.Part.{Part}
-use Rattle.flt_step.specs.Part.{parts_of}
-use Rattle.flt_life_model.specs.Lives.{lists}
 use Rattle.flt_live.specs.Heard.{Talk, talk}
 use Rattle.flt_file.specs.declared.opening.OpenFault.{OpenFault}
 use Rattle.flt_step.specs.declared.step.Step.{Step}
 use Rattle.flt_step.specs.Part.{PartOf}
 use Rattle.flt_live.specs.Lived.{HasGrown}
-use Rattle.flt_live.specs.Session.{EndsFor, IsCutOff, IsEnded, IsEndOf, IsIdle, IsTold, SessionEnd, Unreadable, Refused, Other, Closed, Unread, Ended, HasCause, IsSession, Reading, status_due, status_of_shelf, status_told}
+use Rattle.flt_live.specs.Session.{EndsFor, IsEndOf, IsIdle, IsTold, SessionEnd, Unreadable, Refused, Other, Closed, Unread, Ended, HasCause, IsSession, Reading, status_due, status_of_shelf, status_told}
 use Rattle.flt_live.proofs.Hearing.{rose_later}
 use Rattle.flt_live.proofs.Writings.{appends_more}
 

@@ -1,8 +1,8 @@
 -- Lines that a life took, one more, and why it ended.
 use Rattle.std.proofs.Common.{◌≡◌, ◌∙◌, ℕ, ◌≤◌, ◌++◌, List, [], ◌∷◌, Option, Some, None, Result, Ok, Err, inl, inr, refl, sym, ap, subst, arith}
-use Rattle.std.specs.Prelude.{◌≢◌, ◌⊎◌, IfOk, OnOk, take}
+use Rattle.std.specs.Prelude.{◌≢◌, ◌⊎◌, IfOk, OnOk}
 use Rattle.std.proofs.lemmas.List.{append-nil}
-use Rattle.std.specs.Io.KnownBytes.{Appends, Consumes, IsAtEnd}
+use Rattle.std.specs.Io.KnownBytes.{Appends, Consumes}
 use Rattle.flt_config.specs.declared.config.Config.{Config}
 use Rattle.flt_dcm.specs.Unit.{UnitView}
 use Rattle.flt_flash.specs.declared.blocks.Blocks.{Ghosts}
@@ -28,7 +28,7 @@ use Rattle.flt_live.specs.Ahead.{TakesLine, end_of, text_of}
 use Rattle.flt_live.specs.Answered.{Answers, IsDarkLineAnswered, IsLineAnswered, IsToldBy, LeavesAll, dark_line}
 use Rattle.flt_live.specs.Due.{due_at}
 use Rattle.flt_live.specs.Heard.{AreHeard, ComesTo, Heard, IsOneLine, Talk, answers_of, bytes_of, talk, text_in}
-use Rattle.flt_live.specs.Lived.{AreDark, EndsBy, IsLostFor, TakesDarkLines, TakesLines, UnlessLost, lost_by}
+use Rattle.flt_live.specs.Lived.{AreDark, IsLostFor, TakesDarkLines, TakesLines, UnlessLost, lost_by}
 use Rattle.flt_live.specs.Made.{IsMidway, Made}
 use Rattle.flt_live.proofs.Taking.{then_takes}
 use Rattle.flt_live.proofs.Writings.{appends_more, nothing_more}

@@ -1,4 +1,4 @@
-use Rattle.std.proofs.Common.{◌≡◌, [], refl, arith, subst}
+use Rattle.std.proofs.Common.{[], refl, arith, subst}
 use Rattle.flt_config.specs.declared.config.Config.{Config}
 use Rattle.flt_dcm.specs.Unit.{Stands}
 use Rattle.flt_dcm.specs.Whole.{state_of}
