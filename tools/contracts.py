@@ -20,7 +20,7 @@ MOST_CHARACTERS = 900
 FUNCTION = re.compile(r"^\s*(?:pub(?:\([a-z]+\))? )?fn ([a-z_0-9]+)", re.M)
 CLAUSE = re.compile(r"^\s*(?:requires|ensures)\b[^{\n]*\{", re.M)
 BODY = re.compile(r"^\s*\{|;\s*$|\{\}\s*$", re.M)
-DEFINED = re.compile(r"^(?:abbrev |unfoldable )?pub (?:record )?([A-Za-z_][A-Za-z_0-9]*)\b[^\n]*:", re.M)
+DEFINED = re.compile(r"^(?:abbrev |unfoldable )?pub (?:record |data )?([A-Za-z_][A-Za-z_0-9]*)\b[^\n]*:", re.M)
 
 
 @dataclasses.dataclass
