@@ -142,6 +142,7 @@ fn watch_script<R: Threads + Wait + Sync, K: Sink, G: Gate + Sync>(
 /// Reads a script from `source`, makes its one life on a lock over a watched machine, the lanes of a block at the same time on threads of
 /// `rt`, and tells `sink` its lines and then the value of each kind that has a subscriber. The life begins as one of a controller that
 /// never saved a state, and keeps none. Each step is made between the two calls of `gate`.
+#[inline(never)]
 pub fn watch<R: Threads + Wait + Sync, S: Source, K: Sink, G: Gate + Sync>(
     rt: &R,
     alloc: Global,
