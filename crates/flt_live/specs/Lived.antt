@@ -94,11 +94,11 @@ module _ {B : Type 0} {b : Ghosts B} where
     pub lost : IsLostFor from.write_faults after.write_faults end
     pub later : IsLater from after
 
--- Whole lines were written, and no part of another.
+-- Bytes were written; this says no more of them.
 abbrev pub HasGrown : Option (List ℕ) → Option (List ℕ) → Type 0
 HasGrown before after = (text : List ℕ) × Appends before after text
 
--- The lines of lives were written, of which the last began so.
+-- Bytes were written, and among them the line of a life that began so.
 pub record IsSessionSaid (before after : Option (List ℕ)) (boot : Boot) : Type 0 where
   pub number : ℕ
   pub earlier : List ℕ

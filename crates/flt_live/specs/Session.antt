@@ -60,7 +60,7 @@ status_due (Closed fault) = status_of_shelf fault
 status_due Unread = 3
 status_due (Ended boot) = status_by boot
 
--- What was written: one line that says why no life began; or the lines of lives.
+-- What was written: one line that says why no life began; or bytes of which this says no more than that a beginning is among them.
 abbrev pub IsTold : (before after : Option (List ℕ)) → SessionEnd → Type 0
 IsTold before after Unreadable = Appends before after unread_line
 IsTold before after (Refused fault) = Appends before after (script_fault_line fault)
