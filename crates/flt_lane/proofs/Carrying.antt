@@ -20,7 +20,7 @@ use Rattle.flt_turn.specs.Journal.{ops_of}
 use Rattle.flt_turn.specs.Seats.{Seated}
 use Rattle.flt_step.specs.declared.step.Step.TheVariants as steps
 use Rattle.flt_life_model.specs.Actions.{action_of}
-use Rattle.flt_life_model.specs.Applications.{GetsBy, HoldApplications, MayHold, jobs_told, up_to_done}
+use Rattle.flt_life_model.specs.Applications.{AreHeld, GetsBy, HoldApplications, MayHold, answers_of, jobs_told, up_to_done}
 use Rattle.flt_life_model.specs.Ordered.{Deed}
 use Rattle.flt_life_model.specs.declared.answer.StepAnswer.TheVariants as answers
 use Rattle.flt_shared.specs.Call.{Seat}
@@ -29,7 +29,7 @@ use Rattle.flt_life_model.proofs.Causing.{caused_arm}
 use Rattle.flt_fork.specs.Seats.{AreJoined}
 use Rattle.flt_lane.specs.Draining.{DrainsOn}
 use Rattle.flt_fork.specs.Known.{IsKnownTo}
-use Rattle.flt_lane.specs.Living.{AreHeld, Carries, HoldsBy, HoldsOn, IsLivingOn, answers_of, drains_by, drains_of, saves_by}
+use Rattle.flt_lane.specs.Living.{Carries, HoldsBy, HoldsOn, IsLivingOn, drains_by, drains_of, saves_by}
 use Rattle.flt_lane.specs.Runs.{QueueSeat}
 use Rattle.flt_life_model.proofs.Keeping.{IsNoSave, kept_other}
 
@@ -118,36 +118,13 @@ module _ {B : Type 0} {b : Ghosts B} (c : Config) where
 module _ (first : ℕ → Content) (seat : QueueSeat) (earlier : List Deed) (deed : Deed) (values now : ℕ → Content) (same : SameApplications values now) (no_drain : drains_by deed.1 ≡ 0)
     (no_job : jobs_told (deed.1 ∷ answers_of earlier) ≡ jobs_told (answers_of earlier))
     (gets : (past : History) → AreHeld first past (jobs_told (answers_of earlier)) earlier values → GetsBy first past earlier (action_of deed.0) deed.1) where
-  deed_held : (past : History) → AreHeld first past (jobs_told (answers_of earlier)) earlier values → AreHeld first past (jobs_told (answers_of (deed ∷ earlier))) (deed ∷ earlier) now
-  deed_held past held =
-      let jobs = jobs_told (answers_of earlier) in
-      let told = held.told in
-      record {
-        done = no_job ∙ held.done;
-        held = subst (λ n. HoldApplications first (up_to_done n past) now) (sym no_job)
-            (λ block below. subst (MayHold block (first (application_number block)) (up_to_done jobs past)) (sym (same block below)) (held.held block below));
-        got = (gets past held, held.got);
-        told = omega arith;
-      }
-
   pub holds_deed : HoldsOn first seat earlier values → HoldsOn first seat (deed ∷ earlier) now
   holds_deed holds = record {
     known = holds.known;
     is_known = holds.is_known;
     least = (let least = holds.least in omega (arith, least, no_drain));
-    held = λ few. deed_held _ (holds.held (omega (arith, few, no_drain)));
+    held = λ few. held_deed first earlier deed values now same no_job _ (gets _) (holds.held (omega (arith, few, no_drain)));
   }
-
--- What a read of an application block tells of it.
-pub gets_bytes : (content : Content) (found : Bool) (out : List ℕ) → Gets content found out → found ≡ true → content ≡ holding out
-gets_bytes missing found out gets is = absurd (false≢true (sym gets.0 ∙ is))
-gets_bytes invalid found out gets is = absurd gets
-gets_bytes (holding held) found out gets is = ap holding (sym gets.1)
-
-pub gets_none : (content : Content) (found : Bool) (out : List ℕ) → Gets content found out → found ≡ false → content ≡ missing
-gets_none missing found out gets is = refl
-gets_none invalid found out gets is = absurd gets
-gets_none (holding held) found out gets is = absurd (true≢false (sym gets.0 ∙ is))
 
 -- ---- a deed that is no save
 
@@ -168,17 +145,6 @@ living_deed c first seat earlier deed store now no_save none runs living = recor
 
 module _ {B : Type 0} {b : Ghosts B} (c : Config) (dem : Seat) (jobs after : QueueSeat) (earlier : List Deed) (written failed calls count : ℕ) (store now : Store B b) (drains : DrainsOn c jobs after calls count failed store now)
     (calls_are : calls ≡ drains_by (answers.Drained written failed)) (count_is : count ≡ written + failed) where
-  drain_begun : (begun : ℕ) → IsCaused c begun (answers_of earlier) store → IsCaused c begun (answers.Drained 0 0 ∷ answers_of earlier) store
-  drain_begun begun caused = record {
-    held_now = caused.held_now;
-    spare_now = caused.spare_now;
-    running = caused.running;
-    flash = caused.flash;
-    jobs = λ unspent. (let jobs = caused.jobs unspent in omega (arith, jobs));
-    spent = caused.spent;
-    sequence = caused.sequence;
-  }
-
   drain_held : (first : ℕ → Content) → HoldsOn first jobs earlier (driver_of store).value → HoldsOn first after ((steps.Drain, answers.Drained written failed) ∷ earlier) (driver_of now).value
   drain_held first holds =
       let done = drains.holds first (drains_of earlier) (jobs_told (answers_of earlier)) earlier holds in
@@ -201,6 +167,6 @@ module _ {B : Type 0} {b : Ghosts B} (c : Config) (dem : Seat) (jobs after : Que
   carries_drained = record {
     alive = λ alive. record { held = alive.held; spare = alive.spare; running = drains.running alive.held alive.spare alive.running };
     living = λ first start living. living_deed c first dem earlier (steps.Drain, answers.Drained written failed) store now tt refl drains.running living;
-    caused = λ begun caused. subst (λ n. IsCaused c begun (answers.Drained written n ∷ answers_of earlier) now) (omega arith) (drains.caused begun (answers_of earlier) 0 written 0 (drain_begun begun caused));
+    caused = λ begun caused. subst (λ n. IsCaused c begun (answers.Drained written n ∷ answers_of earlier) now) (omega arith) (drains.caused begun (answers_of earlier) 0 written 0 (caused_first c store begun (answers_of earlier) caused));
     holds = λ alive first holds. drain_held first holds;
   }

@@ -24,7 +24,7 @@ use Rattle.flt_turn.specs.declared.vault.Entry.{Entry}
 use Rattle.flt_turn.specs.Journal.{entry}
 use Rattle.flt_turn.specs.Sums.{one_if}
 use Rattle.flt_life_model.specs.Answers.{Told}
-use Rattle.flt_life_model.specs.Applications.{job_behind}
+use Rattle.flt_life_model.specs.Applications.{AreHeld, job_behind}
 use Rattle.flt_life_model.specs.Draining.{Drained, calls_for, calls_for_all}
 use Rattle.flt_life_model.specs.Ordered.{Deed}
 use Rattle.flt_life_model.specs.declared.answer.StepAnswer.TheVariants as answers
@@ -32,9 +32,10 @@ use Rattle.flt_life_model.specs.SoFar.{IsCaused}
 use Rattle.flt_fork.specs.Chain.{Chain}
 use Rattle.flt_life_model.proofs.Causing.{unspent_before}
 use Rattle.flt_lane.specs.Draining.{DrainsOn, HasDrained, MakesJobs, TakesJob}
-use Rattle.flt_lane.specs.Living.{AreHeld, HoldsBy, drain_call, drains_in}
+use Rattle.flt_lane.specs.Living.{HoldsBy, drain_call, drains_in}
 use Rattle.flt_lane.specs.Runs.{QueueSeat}
-use Rattle.flt_lane.proofs.Applying.{IsInHand, IsWritten, drains-append, hand_further, hand_taken, held_beside, held_done, held_further, newest_more, newest_of, queue_calls}
+use Rattle.flt_life_model.proofs.HeldBlocks.{IsInHand, IsWritten, hand_taken, held_beside, held_done}
+use Rattle.flt_lane.proofs.Applying.{drains-append, hand_further, held_further, newest_more, newest_of, queue_calls}
 use Rattle.flt_fork.proofs.Chains.{chain_fact, chain_more}
 use Rattle.flt_fork.proofs.Knowing.{Since, since, knows_all}
 use Rattle.flt_lane.proofs.Leaving.{leaves_nothing, leaves_further}
@@ -143,37 +144,6 @@ module _ (first : ℕ → Content) (before mid after : QueueSeat) (taken noted :
     least = (let all = noted_is in let least = mid_least in omega (arith, all, least));
     held = held_noted;
   }
-
--- ---- why jobs could not be written
-
-module _ {B : Type 0} {b : Ghosts B} (c : Config) (store now : Store B b) where
-  pub caused_job : (begun : ℕ) (told : List Told) (some more less failed : ℕ) → Follows (driver_of store) (driver_of now) → ((held spare : Generation) → IsRunning c held spare store → IsFalse (driver_of now).is_spent → HasRisenBy (3 * failed) (driver_of store).device.faults (driver_of now).device.faults)
-      → ((held spare : Generation) → IsRunning c held spare store → IsRunning c held spare now) → IsCaused c begun (answers.Drained some less ∷ told) store → IsCaused c begun (answers.Drained more (less + failed) ∷ told) now
-  caused_job begun told some more less failed follows rose running caused =
-      let flash = caused.flash in
-      let counts = follows.counts in
-      record {
-        held_now = caused.held_now;
-        spare_now = caused.spare_now;
-        running = running caused.held_now caused.spare_now caused.running;
-        flash = omega (arith, flash, counts);
-        jobs = λ unspent. (let jobs = caused.jobs (unspent_before (driver_of store).is_spent (driver_of now).is_spent follows.stays_spent unspent) in let rises = rose caused.held_now caused.spare_now caused.running unspent in omega (arith, jobs, rises));
-        spent = caused.spent;
-        sequence = λ was. follows.stays_spent (caused.sequence was);
-      }
-
--- No job more.
-pub caused_same : {B : Type 0} {b : Ghosts B} (c : Config) (store : Store B b) (begun : ℕ) (told : List Told) (some more less : ℕ) → IsCaused c begun (answers.Drained some less ∷ told) store
-    → IsCaused c begun (answers.Drained more (less + 0) ∷ told) store
-caused_same c store begun told some more less caused = record {
-  held_now = caused.held_now;
-  spare_now = caused.spare_now;
-  running = caused.running;
-  flash = caused.flash;
-  jobs = λ unspent. (let jobs = caused.jobs unspent in omega (arith, jobs));
-  spent = caused.spent;
-  sequence = caused.sequence;
-}
 
 -- ---- one after the other
 

@@ -16,6 +16,7 @@ use Rattle.flt_turn.specs.Call.{past}
 use Rattle.flt_store.specs.declared.fault.SaveFault.{SaveFault}
 use Rattle.flt_store.specs.declared.store.Store.{Store}
 use Rattle.flt_store.specs.Store.{IsRunning, MayHaveSaved, Saves, numbered}
+use Rattle.flt_life_model.specs.Applications.{answers_of}
 use Rattle.flt_life_model.specs.Actions.{IsStepCall}
 use Rattle.flt_life_model.specs.Chain.{start_from}
 use Rattle.flt_life_model.specs.Journal.{Journal, entry, calls_of, snapshot_of}
@@ -24,7 +25,7 @@ use Rattle.flt_life_model.specs.declared.answer.StepAnswer.TheVariants as answer
 use Rattle.flt_step.specs.declared.step.Step.TheVariants as steps
 use Rattle.flt_shared.specs.Call.{Seat, IsCall}
 use Rattle.flt_life_model.specs.SoFar.{IsKeptSince}
-use Rattle.flt_lane.specs.Living.{IsLivingOn, answers_of, save_call, saves_in, saves_of}
+use Rattle.flt_lane.specs.Living.{IsLivingOn, save_call, saves_in, saves_of}
 use Rattle.flt_fork.proofs.Knowing.{Since, since, knows_all}
 use Rattle.flt_life_model.proofs.Keeping.{kept_failed, kept_further, kept_saved, pushed, snapshot_further}
 

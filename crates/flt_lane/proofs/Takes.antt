@@ -13,13 +13,14 @@ use Rattle.flt_store.specs.declared.store.Store.{Store}
 use Rattle.flt_store.specs.Store.{driver_of}
 use Rattle.flt_turn.specs.declared.answer.Answer.{Answer}
 use Rattle.flt_turn.specs.Sums.{one_if}
-use Rattle.flt_life_model.specs.Draining.{take_at}
-use Rattle.flt_lane.specs.Draining.{FindsNone, MakesJobs, TakesJob, WritesJob}
+use Rattle.flt_life_model.specs.Draining.{WritesJob, take_at}
+use Rattle.flt_lane.specs.Draining.{FindsNone, MakesJobs, TakesJob}
 use Rattle.flt_lane.specs.Living.{HoldsBy}
 use Rattle.flt_lane.specs.Runs.{QueueSeat}
-use Rattle.flt_lane.proofs.Applying.{IsWritten}
+use Rattle.flt_life_model.proofs.HeldBlocks.{IsWritten}
 use Rattle.flt_fork.proofs.Chains.{chain_more, chain_of_one}
-use Rattle.flt_lane.proofs.Drains.{caused_job, caused_same, holds_noted, holds_taken}
+use Rattle.flt_life_model.proofs.Causing.{caused_job, caused_same}
+use Rattle.flt_lane.proofs.Drains.{holds_noted, holds_taken}
 use Rattle.flt_lane.proofs.Leaving.{leaves_by_calls, leaves_nothing}
 
 -- What a take that handed out no job was told.

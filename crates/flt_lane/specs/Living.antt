@@ -15,7 +15,7 @@ use Rattle.flt_fork.specs.Known.{IsKnownTo}
 use Rattle.flt_store.specs.declared.store.Store.{Store}
 use Rattle.flt_store.specs.Store.{IsAlive, IsRunning, driver_of}
 use Rattle.flt_life_model.specs.Answers.{Told}
-use Rattle.flt_life_model.specs.Applications.{HoldApplications, AreGot, done_count, jobs_told, up_to_done}
+use Rattle.flt_life_model.specs.Applications.{AreHeld, answers_of, jobs_told}
 use Rattle.flt_life_model.specs.Chain.{start_from}
 use Rattle.flt_life_model.specs.Journal.{Journal}
 use Rattle.flt_life_model.specs.Ordered.{Deed}
@@ -23,10 +23,6 @@ use Rattle.flt_life_model.specs.declared.answer.StepAnswer.TheVariants.{Saved, S
 use Rattle.flt_shared.specs.Call.{Seat}
 use Rattle.flt_life_model.specs.SoFar.{IsKeptSince, IsCaused}
 use Rattle.flt_lane.specs.Runs.{QueueSeat}
-
--- The answers of deeds.
-abbrev pub answers_of : List Deed → List Told
-answers_of deeds = map (λ d. d.1) deeds
 
 -- ---- how many calls touch the store
 
@@ -74,13 +70,6 @@ drains_of [] = 0
 drains_of (deed ∷ earlier) = drains_by deed.1 + drains_of earlier
 
 -- ---- the store
-
--- The application blocks hold what the jobs may have left that are done so far, and each read was answered by those before it.
-pub record AreHeld (first : ℕ → Content) (past : History) (jobs : ℕ) (deeds : List Deed) (values : ℕ → Content) : Type 0 where
-  pub done : jobs ≡ done_count past
-  pub held : HoldApplications first (up_to_done jobs past) values
-  pub got : AreGot first past deeds
-  pub told : jobs_told (answers_of deeds) ≤ jobs
 
 -- By a beginning of the queue's journal that the seat knows, which has so many calls of drains, where no other drain was at work.
 pub record HoldsBy (first : ℕ → Content) (seat : QueueSeat) (calls jobs : ℕ) (deeds : List Deed) (values : ℕ → Content) : Type 0 where

@@ -11,7 +11,8 @@ ghost use Rattle.flt_step.specs.declared.step.Step.TheVariants as steps;
 ghost use Rattle.flt_store.specs.Store.{IsAlive};
 ghost use Rattle.flt_shared.specs.Call.{Seat};
 ghost use Rattle.flt_turn.specs.Seats as turn;
-ghost use Rattle.flt_lane.specs.Draining.{LooksForJob, WritesJob};
+ghost use Rattle.flt_life_model.specs.Draining.{WritesJob};
+ghost use Rattle.flt_lane.specs.Draining.{LooksForJob};
 ghost use Rattle.flt_lane.specs.Stepped.{HasRoomFor, TakesStep};
 ghost use Rattle.flt_lane.specs.Work.{CanDrain};
 

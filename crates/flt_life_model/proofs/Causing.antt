@@ -1,7 +1,8 @@
 -- What each step leaves of the causes of the steps that failed.
-use Rattle.std.proofs.Common.{◌≡◌, ⊎_elim, ℕ, ◌+◌, ◌*◌, ◌-◌, ◌^◌, ◌≤◌, Bool, List, ◌∷◌, refl, ap, subst, sym, arith}
-use Rattle.std.specs.Prelude.{IsTrue, IsFalse}
-use Rattle.std.proofs.lemmas.Bool.{both_ways, false_from_ne_true}
+use Rattle.std.proofs.Common.{◌≡◌, ◌∙◌, ⊎_elim, Ok, Err, not, ℕ, ◌+◌, ◌*◌, ◌-◌, ◌^◌, ◌≤◌, Bool, List, ◌∷◌, refl, ap, subst, sym, arith}
+use Rattle.std.specs.Prelude.{IsTrue, IsFalse, is_ok}
+use Rattle.std.specs.declared.result.Result.{Result}
+use Rattle.std.proofs.lemmas.Bool.{both_ways, false_from_ne_true, false≢true}
 use Rattle.flt_flash.specs.Content.{Content, missing, invalid, bytes}
 use Rattle.flt_flash.specs.State.{HasRisenBy}
 use Rattle.flt_flash.specs.Blocks.{BlocksState}
@@ -12,11 +13,14 @@ use Rattle.flt_config.specs.declared.config.Config.{Config}
 use Rattle.flt_config.specs.declared.persist.Persist.{Persist}
 use Rattle.flt_store_model.specs.Holding.{Generation, Names}
 use Rattle.flt_store_model.proofs.ImageLaws.{held_stands}
+use Rattle.flt_store.specs.declared.fault.PutFault.{PutFault}
+use Rattle.flt_store.specs.declared.fault.PutFault.TheVariants as put
 use Rattle.flt_store.specs.declared.fault.SaveFault.{SaveFault}
 use Rattle.flt_store.specs.declared.fault.SaveFault.TheVariants.{Flash, Spent, SequenceSpent}
 use Rattle.flt_store.specs.declared.store.Store.{Store}
 use Rattle.flt_store.specs.Cause.{FailsThrice}
 use Rattle.flt_store.specs.Store.{driver_of, numbered, IsRunning, Saves, MayHaveSaved, IsLast}
+use Rattle.flt_turn.specs.Sums.{one_if}
 use Rattle.flt_life_model.specs.Answers.{Told}
 use Rattle.flt_life_model.specs.declared.answer.StepAnswer.TheVariants as answers
 use Rattle.flt_life_model.specs.Moment.{Moment, moment_of}
@@ -162,6 +166,54 @@ module _ {B : Type 0} {b : Ghosts B} (c : Config) (begun : ℕ) (told : List Tol
         spent = caused.spent;
         sequence = λ was. follows.stays_spent (caused.sequence was);
       }
+
+module _ {B : Type 0} {b : Ghosts B} (c : Config) (store now : Store B b) where
+  pub caused_job : (begun : ℕ) (told : List Told) (some more less failed : ℕ) → Follows (driver_of store) (driver_of now) → ((held spare : Generation) → IsRunning c held spare store → IsFalse (driver_of now).is_spent → HasRisenBy (3 * failed) (driver_of store).device.faults (driver_of now).device.faults)
+      → ((held spare : Generation) → IsRunning c held spare store → IsRunning c held spare now) → IsCaused c begun (answers.Drained some less ∷ told) store → IsCaused c begun (answers.Drained more (less + failed) ∷ told) now
+  caused_job begun told some more less failed follows rose running caused =
+      let flash = caused.flash in
+      let counts = follows.counts in
+      record {
+        held_now = caused.held_now;
+        spare_now = caused.spare_now;
+        running = running caused.held_now caused.spare_now caused.running;
+        flash = omega (arith, flash, counts);
+        jobs = λ unspent. (let jobs = caused.jobs (unspent_before (driver_of store).is_spent (driver_of now).is_spent follows.stays_spent unspent) in let rises = rose caused.held_now caused.spare_now caused.running unspent in omega (arith, jobs, rises));
+        spent = caused.spent;
+        sequence = λ was. follows.stays_spent (caused.sequence was);
+      }
+
+-- No job more.
+pub caused_same : {B : Type 0} {b : Ghosts B} (c : Config) (store : Store B b) (begun : ℕ) (told : List Told) (some more less : ℕ) → IsCaused c begun (answers.Drained some less ∷ told) store
+    → IsCaused c begun (answers.Drained more (less + 0) ∷ told) store
+caused_same c store begun told some more less caused = record {
+  held_now = caused.held_now;
+  spare_now = caused.spare_now;
+  running = caused.running;
+  flash = caused.flash;
+  jobs = λ unspent. (let jobs = caused.jobs unspent in omega (arith, jobs));
+  spent = caused.spent;
+  sequence = caused.sequence;
+}
+
+-- A drain that has taken no job.
+pub caused_first : {B : Type 0} {b : Ghosts B} (c : Config) (store : Store B b) (begun : ℕ) (told : List Told) → IsCaused c begun told store → IsCaused c begun (answers.Drained 0 0 ∷ told) store
+caused_first c store begun told caused = record {
+  held_now = caused.held_now;
+  spare_now = caused.spare_now;
+  running = caused.running;
+  flash = caused.flash;
+  jobs = λ unspent. (let jobs = caused.jobs unspent in omega (arith, jobs));
+  spent = caused.spent;
+  sequence = caused.sequence;
+}
+
+-- Where the last sequence number is not in use, a job that could not be written met three faults.
+pub rose_by : (result : Result (Unit {0}) PutFault) (before after : ℕ) (spent : Bool) → (result ≡ Err put.Flash → HasRisenBy 3 before after) → (result ≡ Err put.SequenceSpent → IsTrue spent) → HasRisenBy 0 before after → IsFalse spent
+    → HasRisenBy (3 * one_if (not (is_ok result))) before after
+rose_by (Ok value) before after spent flash sequence counts unspent = omega (arith, counts)
+rose_by (Err put.Flash) before after spent flash sequence counts unspent = let three = flash refl in omega (arith, three)
+rose_by (Err put.SequenceSpent) before after spent flash sequence counts unspent = absurd (false≢true (sym unspent ∙ sequence refl))
 
 pub are_caused : {B : Type 0} {b : Ghosts B} (c : Config) (begun : ℕ) (told : List Told) (store : Store B b) (boot : Moment) → HasRisenBy 0 boot.faults begun
     → IsCaused c begun told store → AreCaused c boot (moment_of (driver_of store)) told

@@ -16,3 +16,4 @@ pub mod ByAction
 pub mod Reading
 pub mod Keeping
 pub mod DeedLists
+pub mod HeldBlocks

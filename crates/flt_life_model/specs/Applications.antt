@@ -1,5 +1,5 @@
 -- What the application blocks hold, by the drains of a life: all lists begin with the newest.
-use Rattle.std.specs.Prelude.{◌≡◌, ◌⊎◌, ◌<◌, ◌+◌, ◌==◌, ◌&&◌, nat_le, ℕ, Bool, true, false, if◌then◌else◌, List, [], ◌∷◌, map, Option, Some, None, IsTrue}
+use Rattle.std.specs.Prelude.{◌≡◌, ◌⊎◌, ◌<◌, ◌≤◌, ◌+◌, ◌==◌, ◌&&◌, nat_le, ℕ, Bool, true, false, if◌then◌else◌, List, [], ◌∷◌, map, Option, Some, None, IsTrue}
 use Rattle.flt_flash.specs.Content.{Content, missing, bytes as holding}
 use Rattle.flt_store_model.specs.Layout.{applications, application_number}
 use Rattle.flt_queue.specs.declared.job.Job.{Job}
@@ -78,3 +78,14 @@ GetsBy first queue earlier _ _ = Unit {0}
 abbrev pub AreGot : (ℕ → Content) → History → List Deed → Type 0
 AreGot first queue [] = Unit {0}
 AreGot first queue (deed ∷ earlier) = GetsBy first queue earlier (action_of deed.0) deed.1 × AreGot first queue earlier
+
+-- The answers of deeds.
+abbrev pub answers_of : List Deed → List Told
+answers_of deeds = map (λ d. d.1) deeds
+
+-- The application blocks hold what the jobs may have left that are done so far, and each read was answered by those before it.
+pub record AreHeld (first : ℕ → Content) (past : History) (jobs : ℕ) (deeds : List Deed) (values : ℕ → Content) : Type 0 where
+  pub done : jobs ≡ done_count past
+  pub held : HoldApplications first (up_to_done jobs past) values
+  pub got : AreGot first past deeds
+  pub told : jobs_told (answers_of deeds) ≤ jobs

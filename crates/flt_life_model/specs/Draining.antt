@@ -1,5 +1,14 @@
 -- What a drain does: which jobs it takes from the queue, and the calls that it makes.
-use Rattle.std.specs.Prelude.{◌≡◌, ◌<◌, ℕ, Bool, not, List, [], ◌∷◌, ◌++◌, length, sum_by}
+use Rattle.std.specs.Prelude.{◌≡◌, ◌⊎◌, ◌*◌, ◌<◌, ℕ, Bool, true, not, List, [], ◌∷◌, ◌++◌, length, sum_by, IsFalse}
+use Rattle.flt_flash.specs.Calls.{Follows, OthersKept}
+use Rattle.flt_flash.specs.Content.{bytes as holding}
+use Rattle.flt_flash.specs.State.{HasRisenBy}
+use Rattle.flt_flash.specs.declared.blocks.Blocks.{Ghosts}
+use Rattle.flt_config.specs.declared.config.Config.{Config}
+use Rattle.flt_store_model.specs.Holding.{Generation}
+use Rattle.flt_store_model.specs.Layout.{application_number}
+use Rattle.flt_store.specs.declared.store.Store.{Store}
+use Rattle.flt_store.specs.Store.{IsRunning, driver_of}
 use Rattle.flt_turn.specs.declared.answer.Answer.{Answer}
 use Rattle.flt_turn.specs.Sums.{one_if}
 use Rattle.flt_queue.specs.declared.job.Job.{Job}
@@ -44,3 +53,16 @@ pub record DrainMakes (written failed : ℕ) (calls : List QueueCall) : Type 0 w
   pub calls_are : calls ≡ calls_for_all jobs ++ last
   pub written_is : written ≡ sum_by (λ d. one_if d.written) jobs
   pub failed_is : failed ≡ sum_by (λ d. one_if (not d.written)) jobs
+
+module _ {B : Type 0} {b : Ghosts B} where
+  -- A job was written to its block, or could not be, and each other block was left as it was. Where the last sequence number is not in
+  -- use behind it, a job that could not be written met three faults.
+  pub record WritesJob (c : Config) (job : Job) (written : Bool) (store now : Store B b) : Type 0 where
+    pub all : written ≡ true → (driver_of now).value (application_number job.block) ≡ holding job.bytes.items
+    pub either : ((driver_of now).value (application_number job.block) ≡ (driver_of store).value (application_number job.block))
+        ⊎ ((driver_of now).value (application_number job.block) ≡ holding job.bytes.items)
+    pub others : OthersKept (application_number job.block) (driver_of store) (driver_of now)
+    pub running : (held spare : Generation) → IsRunning c held spare store → IsRunning c held spare now
+    pub rose : (held spare : Generation) → IsRunning c held spare store → IsFalse (driver_of now).is_spent
+        → HasRisenBy (3 * one_if (not written)) (driver_of store).device.faults (driver_of now).device.faults
+    pub follows : Follows (driver_of store) (driver_of now)

@@ -26,7 +26,7 @@ use Rattle.flt_live.specs.declared.living.LifeEnd.{LifeEnd}
 use Rattle.flt_live.specs.declared.living.LifeEnd.TheVariants.{Power, Ended, Unread, Unwritten, Memory}
 use Rattle.flt_live.specs.Begun.{IsBegunBy}
 use Rattle.flt_live.specs.Heard.{Says, Talk, answers_of}
-use Rattle.flt_live.specs.Lived.{GoesOnBy, HasGrown, IsLifeLived, IsLostFor, IsSessionSaid, TakesDarkLines, TakesLines, UnlessLost, lost_by}
+use Rattle.flt_live.specs.Lived.{GoesOnBy, IsLifeLived, IsLostFor, TakesDarkLines, TakesLines, UnlessLost, lost_by}
 use Rattle.flt_live.proofs.Hearing.{lost_anyway, lost_for, rose_later}
 use Rattle.flt_live.proofs.Writings.{appends_more, nothing_more}
 
@@ -36,7 +36,7 @@ pub begins : {B : Type 0} {b : Ghosts B} (c : Config) (first : Generation) (unit
 begins c first unit store running stands = record { stands = stands; held = first; spare = first; running = running; kept = kept_first c first }
 
 -- What holds of a life that was not lost, and what follows from it.
-unless : (end : LifeEnd) (P Q : Type 0) → (P → Q) → UnlessLost end P → UnlessLost end Q
+pub unless : (end : LifeEnd) (P Q : Type 0) → (P → Q) → UnlessLost end P → UnlessLost end Q
 unless Power P Q more holds = more holds
 unless Ended P Q more holds = more holds
 unless Unread P Q more holds = more holds
@@ -104,61 +104,3 @@ module _ {B : Type 0} {b : Ghosts B} (c : Config) (begun : Store B b) (unit : Un
       subst (λ (it : Boot). UnlessLost end (GoesOnBy c it begun begun unit between after end)) (sym is)
       (subst (λ (e : LifeEnd). UnlessLost e (GoesOnBy c (boots.Refused fault) begun begun unit between after e)) (sym ends)
       (refl, ap (λ (t : Talk). t.ahead) same, ap (λ (t : Talk). t.held) same, refl))
-
--- ---- the lines of lives one after the other
-
-pub grown_none : (held : Option (List ℕ)) → HasGrown held held
-grown_none held = ([], nothing_more held)
-
-module _ {B : Type 0} {b : Ghosts B} (c : Config) where
-  rest_of : (boot : Boot) (begun last : Store B b) (unit : UnitView) (before after : Talk) (end : LifeEnd) → GoesOnBy c boot begun last unit before after end → HasGrown before.held after.held
-  rest_of (boots.Started number state) begun last unit before after end goes = (answers_of goes.heard, goes.written)
-  rest_of boots.Dark begun last unit before after end goes = (answers_of goes.1.heard, goes.1.written)
-  rest_of (boots.Refused fault) begun last unit before after end goes = subst (HasGrown before.held) (sym goes.2) (grown_none before.held)
-
-module _ {B : Type 0} {b : Ghosts B} (start : Option (List ℕ)) (c : Config) (number status : ℕ) (before : BlocksState) (last : Store B b) (unit : UnitView) (from after : Talk) (end : LifeEnd)
-    (lived : IsLifeLived c number status before last unit from after end) (grown : HasGrown start from.held) where
-  abbrev Said : LifeEnd → Type 0
-  Said e = (t : Talk) × Says (boot_line number lived.boot) from t × GoesOnBy c lived.boot lived.begun last unit t after e
-
-  life_text : (e : LifeEnd) → Said e → (rest : List ℕ) × Appends from.held after.held (boot_line number lived.boot ++ rest)
-  life_text e (t, says, goes) =
-      let rest = rest_of c lived.boot lived.begun last unit t after e goes in
-      (rest.0, appends_more from.held t.held after.held (boot_line number lived.boot) rest.0 says.written rest.1)
-
-  -- The lines of a life behind those before it.
-  pub grown_life : end ≡ Power → HasGrown start after.held
-  grown_life is =
-      let text = life_text Power (subst (λ e. UnlessLost e (Said e)) is lived.said) in
-      (grown.0 ++ (boot_line number lived.boot ++ text.0), appends_more start from.held after.held grown.0 (boot_line number lived.boot ++ text.0) grown.1 text.1)
-
-  -- The last life.
-  pub session_said : end ≡ Ended → (boot : Boot) × (status ≡ status_by boot) × IsSessionSaid start after.held boot
-  session_said is =
-      let text = life_text Ended (subst (λ e. UnlessLost e (Said e)) is lived.said) in (
-        lived.boot,
-        lived.status_is,
-        record {
-          number = number;
-          earlier = grown.0;
-          rest = text.0;
-          said = appends_more start from.held after.held grown.0 (boot_line number lived.boot ++ text.0) grown.1 text.1;
-        },
-      )
-
-  -- A life whose source failed, or whose sink did.
-  pub unread_rose : end ≡ Unread → HasGrown start after.held × Rose from.read_faults after.read_faults
-  unread_rose is =
-      let said = subst (λ e. UnlessLost e (Said e)) is lived.said in
-      let text = life_text Unread said in (
-        (grown.0 ++ (boot_line number lived.boot ++ text.0), appends_more start from.held after.held grown.0 (boot_line number lived.boot ++ text.0) grown.1 text.1),
-        subst (λ n. Rose n after.read_faults) said.1.read_faults (rose_of lived.boot said.0 said.2),
-      )
-    where
-      rose_of : (how : Boot) (t : Talk) → GoesOnBy c how lived.begun last unit t after Unread → Rose t.read_faults after.read_faults
-      rose_of (boots.Started generation state) t goes = goes.ended
-      rose_of boots.Dark t goes = goes.1.ended
-      rose_of (boots.Refused fault) t goes = absurd (cc goes.3)
-
-  pub unwritten_rose : end ≡ Unwritten → Rose from.write_faults after.write_faults
-  unwritten_rose is = subst (IsLostFor from.write_faults after.write_faults) is lived.lost

@@ -7,4 +7,5 @@ pub mod Says
 pub mod Beginnings
 pub mod Hearing
 pub mod Boots
+pub mod Spans
 pub mod Closings

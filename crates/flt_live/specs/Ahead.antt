@@ -11,10 +11,14 @@ use Rattle.flt_live.specs.declared.reader.Line.TheVariants.{Fed, Cut, Ended}
 abbrev pub pulled : LineReader → List ℕ
 pulled reader = take (reader.to - reader.from) (drop reader.from reader.piece)
 
--- What was pulled and not taken, and what is left of the source, where it tells that.
+-- These bytes, and then what is left of a source, where it tells that.
+abbrev pub ahead_with : List ℕ → Option (List ℕ) → Option (List ℕ)
+ahead_with bytes None = None
+ahead_with bytes (Some left) = Some (bytes ++ left)
+
+-- What was pulled and not taken, and what is left of the source.
 abbrev pub ahead_of : Option (List ℕ) → LineReader → Option (List ℕ)
-ahead_of None reader = None
-ahead_of (Some left) reader = Some (pulled reader ++ left)
+ahead_of left reader = ahead_with (pulled reader) left
 
 -- A byte was taken, or none where none was ahead.
 abbrev pub Takes : Option (List ℕ) → Option (List ℕ) → Option ℕ → Type 0

@@ -7,3 +7,5 @@ pub mod Begun
 pub mod Heard
 pub mod Lived
 pub mod Session
+pub mod Span
+pub mod Examples

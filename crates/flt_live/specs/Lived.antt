@@ -93,14 +93,3 @@ module _ {B : Type 0} {b : Ghosts B} where
     pub said : UnlessLost end ((between : Talk) × Says (boot_line number boot) from between × GoesOnBy c boot begun last unit between after end)
     pub lost : IsLostFor from.write_faults after.write_faults end
     pub later : IsLater from after
-
--- Bytes were written; this says no more of them.
-abbrev pub HasGrown : Option (List ℕ) → Option (List ℕ) → Type 0
-HasGrown before after = (text : List ℕ) × Appends before after text
-
--- Bytes were written, and among them the line of a life that began so.
-pub record IsSessionSaid (before after : Option (List ℕ)) (boot : Boot) : Type 0 where
-  pub number : ℕ
-  pub earlier : List ℕ
-  pub rest : List ℕ
-  pub said : Appends before after (earlier ++ (boot_line number boot ++ rest))

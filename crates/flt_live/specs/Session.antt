@@ -1,7 +1,8 @@
--- How a session ends, with its cause: what is told at its end, and which status says so.
+-- How a session ends, with its cause: its lives, what is written, and which status says so.
 use Rattle.std.specs.Prelude.{◌≡◌, ◌≤◌, ◌⊎◌, ℕ, List, [], ◌∷◌, ◌++◌, Bool, true, false, codes, Option, Result, Ok, Err}
 use Rattle.std.specs.Str.{bytes_eq}
 use Rattle.std.specs.Io.KnownBytes.{Appends, IsAtEnd}
+use Rattle.flt_config.specs.declared.config.Config.{Config}
 use Rattle.flt_config.specs.declared.config.DidUse.{DidUse}
 use Rattle.flt_file.specs.declared.opening.OpenFault.{OpenFault}
 use Rattle.flt_file.specs.declared.opening.OpenFault.TheVariants as shelves
@@ -16,10 +17,11 @@ use Rattle.flt_step.specs.declared.step.Step.{Step}
 use Rattle.flt_step.specs.Part.{PartOf}
 use Rattle.flt_life_model.specs.declared.life.Boot.{Boot}
 use Rattle.flt_life_model.specs.Statuses.{status_by}
+use Rattle.flt_live.specs.declared.living.LifeEnd.TheVariants as lives
 use Rattle.flt_live.specs.declared.session.End.{End}
 use Rattle.flt_live.specs.declared.session.End.TheVariants as ends
 use Rattle.flt_live.specs.Heard.{Talk}
-use Rattle.flt_live.specs.Lived.{HasGrown, IsSessionSaid}
+use Rattle.flt_live.specs.Span.{AreSpans, HavePassed}
 
 -- The bytes of the configuration that are left, before and after it was read, and how often its source failed.
 pub record Reading : Type 0 where
@@ -60,65 +62,73 @@ status_due (Closed fault) = status_of_shelf fault
 status_due Unread = 3
 status_due (Ended boot) = status_by boot
 
--- What was written: one line that says why no life began; or bytes of which this says no more than that a beginning is among them.
-abbrev pub IsTold : (before after : Option (List ℕ)) → SessionEnd → Type 0
-IsTold before after Unreadable = Appends before after unread_line
-IsTold before after (Refused fault) = Appends before after (script_fault_line fault)
-IsTold before after Other = Appends before after (codes "script other" ++ 10 ∷ [])
-IsTold before after (Closed fault) = HasGrown before after
-IsTold before after Unread = HasGrown before after
-IsTold before after (Ended boot) = IsSessionSaid before after boot
-
 -- A script with these lives does nothing: there is one, without a step.
 abbrev pub IsIdle : List (List (PartOf Step)) → Type 0
 IsIdle lives = lives ≡ [] ∷ []
 
--- Why a session ends so whose configuration is a script with these lives.
-abbrev pub IsEndOf : List (List (PartOf Step)) → (before after : Talk) → SessionEnd → Type 0
-IsEndOf lives before after Unreadable = ⊥
-IsEndOf lives before after (Refused fault) = ⊥
-IsEndOf lives before after Other = ¬ IsIdle lives
-IsEndOf lives before after (Closed fault) = IsIdle lives
-IsEndOf lives before after Unread = IsIdle lives × Rose before.read_faults after.read_faults
-IsEndOf lives before after (Ended boot) = IsIdle lives
+-- The source of the lines failed in the last of these lives.
+pub record IsUnread (c : Config) (before after : Talk) : Type 0 where
+  pub boot : Boot
+  pub lived : AreSpans c before after boot lives.Unread
+  pub rose : Rose before.read_faults after.read_faults
+
+-- Lives were lived, and the flash of the next one was not given, of which bytes were written.
+pub record IsClosed (c : Config) (before after : Talk) : Type 0 where
+  pub between : Talk
+  pub lived : HavePassed c before between
+  pub ahead : after.ahead ≡ between.ahead
+  pub text : List ℕ
+  pub written : Appends between.held after.held text
+
+abbrev pub other_line : List ℕ
+other_line = codes "script other" ++ 10 ∷ []
+
+-- Why a session ends so whose configuration is this script, and what was written.
+abbrev pub IsEndOf : ScriptContent → (before after : Talk) → SessionEnd → Type 0
+IsEndOf script before after Unreadable = ⊥
+IsEndOf script before after (Refused fault) = ⊥
+IsEndOf script before after Other = ¬ IsIdle script.lives × Appends before.held after.held other_line
+IsEndOf script before after (Closed fault) = IsIdle script.lives × IsClosed script.config before after
+IsEndOf script before after Unread = IsIdle script.lives × IsUnread script.config before after
+IsEndOf script before after (Ended boot) = IsIdle script.lives × AreSpans script.config before after boot lives.Ended
 
 -- Memory ran out, or the sink failed.
 abbrev pub IsCutOff : (before after : Talk) → ℕ → Type 0
 IsCutOff before after status = (status ≡ 7) ⊎ ((status ≡ 4) × Rose before.write_faults after.write_faults)
 
--- An end of this cause, with its status and what was told; or the session was cut off.
-pub record IsEnded (Cause : SessionEnd → Type 0) (before after : Talk) (status : ℕ) : Type 0 where
+-- An end of this cause, with its status; or the session was cut off.
+pub record IsEnded (Cause : SessionEnd → Type 0) (status : ℕ) : Type 0 where
   pub end : SessionEnd
   pub cause : Cause end
   pub status_is : status ≡ status_due end
-  pub told : IsTold before.held after.held end
 
 abbrev pub EndsFor : (SessionEnd → Type 0) → (before after : Talk) → ℕ → Type 0
-EndsFor Cause before after status = IsEnded Cause before after status ⊎ IsCutOff before after status
+EndsFor Cause before after status = IsEnded Cause status ⊎ IsCutOff before after status
 
 -- The bytes of the configuration are a script, of which this holds.
 abbrev pub IfScript : List DidUse → Reading → (ScriptContent → Type 0) → Type 0
 IfScript dids config fact = (script : ScriptContent) × IsAtEnd config.left_after × AreScript dids config.left script × fact script
 
--- Why a session ends so.
+-- Why a session ends so, and what was written.
 abbrev pub HasCause : List DidUse → Reading → (before after : Talk) → SessionEnd → Type 0
-HasCause dids config before after Unreadable = Rose config.faults config.faults_after
+HasCause dids config before after Unreadable = Rose config.faults config.faults_after × Appends before.held after.held unread_line
 HasCause dids config before after (Refused fault) = HasLostRead config.left config.left_after × AreNoScript dids config.left fault
-HasCause dids config before after Other = IfScript dids config (λ script. IsEndOf script.lives before after Other)
-HasCause dids config before after (Closed fault) = IfScript dids config (λ script. IsEndOf script.lives before after (Closed fault))
-HasCause dids config before after Unread = IfScript dids config (λ script. IsEndOf script.lives before after Unread)
-HasCause dids config before after (Ended boot) = IfScript dids config (λ script. IsEndOf script.lives before after (Ended boot))
+    × Appends before.held after.held (script_fault_line fault)
+HasCause dids config before after Other = IfScript dids config (λ script. IsEndOf script before after Other)
+HasCause dids config before after (Closed fault) = IfScript dids config (λ script. IsEndOf script before after (Closed fault))
+HasCause dids config before after Unread = IfScript dids config (λ script. IsEndOf script before after Unread)
+HasCause dids config before after (Ended boot) = IfScript dids config (λ script. IsEndOf script before after (Ended boot))
 
 -- A session by its configuration.
 abbrev pub IsSession : List DidUse → Reading → (before after : Talk) → ℕ → Type 0
 IsSession dids config before after status = EndsFor (HasCause dids config before after) before after status
 
 -- Why lives ended for something else than the end of the source.
-abbrev pub HasFailed : (before after : Talk) → End → Type 0
-HasFailed before after ends.Unread = HasGrown before.held after.held × Rose before.read_faults after.read_faults
-HasFailed before after ends.Unwritten = Rose before.write_faults after.write_faults
-HasFailed before after ends.Memory = Unit {0}
-HasFailed before after (ends.Shelf fault) = HasGrown before.held after.held × (before.write_faults ≤ after.write_faults)
+abbrev pub HasFailed : Config → (before after : Talk) → End → Type 0
+HasFailed c before after ends.Unread = IsUnread c before after
+HasFailed c before after ends.Unwritten = Rose before.write_faults after.write_faults
+HasFailed c before after ends.Memory = Unit {0}
+HasFailed c before after (ends.Shelf fault) = HavePassed c before after × (before.write_faults ≤ after.write_faults)
 
 -- The status where a line was written or not.
 abbrev pub status_told : {T : Type 0} → ℕ → Result T StreamFault → ℕ

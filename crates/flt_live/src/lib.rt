@@ -16,6 +16,7 @@ mod program;
 mod reader;
 mod session;
 mod shelf;
+pub mod worked;
 
 pub use ear::Ear;
 pub use line::{Answered, Due, Refusal, answer_dark_line, answer_line};

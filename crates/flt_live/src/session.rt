@@ -1,5 +1,6 @@
 //! A session: its configuration, and its lives one after the other.
-ghost use Rattle.std.specs.Prelude.{◌≡◌, ◌⊎◌, ◌↔◌, ◌<◌, ◌≤◌, IfErr, IfOk, IsTrue};
+ghost use Rattle.std.specs.Prelude.{◌≡◌, ◌⊎◌, ◌↔◌, ◌<◌, ◌≤◌, ℕ, List, IfErr, IfOk, IsTrue};
+ghost use Rattle.std.specs.Io.KnownBytes.{Appends};
 ghost use Rattle.flt_did.specs.Serves.{Serves};
 ghost use Rattle.flt_did.specs.Table.{dids_of};
 ghost use Rattle.flt_io.specs.Fault.{Rose};
@@ -12,7 +13,8 @@ ghost use Rattle.flt_life_model.specs.declared.life.Boot.{Boot};
 ghost use Rattle.flt_life_model.specs.Lives.{lists};
 ghost use Rattle.flt_life_model.specs.Statuses.{status_by};
 ghost use Rattle.flt_live.specs.Heard.{talk};
-ghost use Rattle.flt_live.specs.Lived.{HasGrown, IsSessionSaid};
+ghost use Rattle.flt_live.specs.Span.{AreSpans};
+ghost use Rattle.flt_live.specs.declared.living.LifeEnd.TheVariants.{Ended};
 ghost use Rattle.flt_live.specs.Session.{EndsFor, HasFailed, IsEndOf, IsIdle, IsSession, reading, status_of_shelf};
 
 use crate::ear::Ear;
@@ -84,8 +86,10 @@ fn live_on<R: Wait, S: Source, K: Sink, B: Bench + Drop, H: Shelf<B>>(
     shelf: &mut H,
 ) -> Result<Status, End>
     requires same { config_of unit.old ≡ config.now }
-    ensures said { IfOk result (λ status. (boot : Boot) × (number_of status ≡ status_by boot) × IsSessionSaid (K.held sink.old) (K.held sink.new) boot) }
-    ensures failed { IfErr result (HasFailed (talk (S.left source.old) (S.faults source.old) (K.held sink.old) (K.faults sink.old))
+    ensures lived { IfOk result (λ status. (boot : Boot) × (number_of status ≡ status_by boot)
+        × AreSpans config.now (talk (S.left source.old) (S.faults source.old) (K.held sink.old) (K.faults sink.old))
+        (talk (S.left source.new) (S.faults source.new) (K.held sink.new) (K.faults sink.new)) boot Ended) }
+    ensures failed { IfErr result (HasFailed config.now (talk (S.left source.old) (S.faults source.old) (K.held sink.old) (K.faults sink.old))
         (talk (S.left source.new) (S.faults source.new) (K.held sink.new) (K.faults sink.new))) }
 {
     let Ok(mut room) = Room::new(alloc, config) else {
@@ -129,7 +133,7 @@ fn status_of_shelf(fault: &OpenFault) -> Status
 
 /// Pushes why a shelf did not give its flash.
 fn tell_shelf<K: Sink>(alloc: Global, fault: &OpenFault, sink: &mut K) -> Status
-    ensures { ((number_of result ≡ status_of_shelf fault.now) × HasGrown (K.held sink.old) (K.held sink.new))
+    ensures { ((number_of result ≡ status_of_shelf fault.now) × ((text : List ℕ) × Appends (K.held sink.old) (K.held sink.new) text))
         ⊎ ((number_of result ≡ 7) ⊎ ((number_of result ≡ 4) × Rose (K.faults sink.old) (K.faults sink.new))) }
 {
     let Ok(line) = format!(in alloc; "image refused: {fault}\n") else {
@@ -164,7 +168,7 @@ fn live_by<R: Wait, S: Source, K: Sink, B: Bench + Drop, H: Shelf<B>>(
     requires served { Serves (dids_of dids) script.now.config.events.items }
     ensures { let before = talk (S.left source.old) (S.faults source.old) (K.held sink.old) (K.faults sink.old) in
         let after = talk (S.left source.new) (S.faults source.new) (K.held sink.new) (K.faults sink.new) in
-        EndsFor (IsEndOf (content script.now).lives before after) before after (number_of result) }
+        EndsFor (IsEndOf (content script.now) before after) before after (number_of result) }
 {
     if !is_idle(&script.lives) {
         return match sink.push(b"script other\n") {

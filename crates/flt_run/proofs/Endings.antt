@@ -10,16 +10,17 @@ use Rattle.flt_queue.specs.Queue.{History}
 use Rattle.flt_store.specs.declared.store.Store.{Store}
 use Rattle.flt_store.specs.Store.{IsRunning}
 use Rattle.flt_turn.specs.declared.vault.Entry.{Entry}
-use Rattle.flt_life_model.specs.Applications.{AreGot, HoldApplications, jobs_told}
+use Rattle.flt_life_model.specs.Applications.{AreGot, AreHeld, HoldApplications, answers_of, jobs_told}
 use Rattle.flt_life_model.specs.Journal.{Journal}
 use Rattle.flt_life_model.specs.Ordered.{Deed}
 use Rattle.flt_shared.specs.Call.{Seat}
 use Rattle.flt_life_model.specs.SoFar.{IsKeptSince}
 use Rattle.flt_fork.specs.Lived.{CouldClose}
 use Rattle.flt_fork.specs.Known.{IsKnownTo}
-use Rattle.flt_lane.specs.Living.{AreHeld, HoldsOn, IsLivingOn, answers_of, drains_in, drains_of, saves_in, saves_of}
+use Rattle.flt_lane.specs.Living.{HoldsOn, IsLivingOn, drains_in, drains_of, saves_in, saves_of}
 use Rattle.flt_lane.specs.Runs.{QueueSeat}
-use Rattle.flt_lane.proofs.Applying.{drains-append, held_further, may_whole, newest_of, queue_calls}
+use Rattle.flt_life_model.proofs.HeldBlocks.{may_whole}
+use Rattle.flt_lane.proofs.Applying.{drains-append, held_further, newest_of, queue_calls}
 use Rattle.flt_fork.proofs.Closing.{known_whole}
 use Rattle.flt_life_model.proofs.Keeping.{kept_first, kept_further}
 use Rattle.flt_lane.proofs.Saves.{map_reverse, saves-append, step_calls}

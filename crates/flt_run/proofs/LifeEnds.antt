@@ -18,6 +18,7 @@ use Rattle.flt_store.specs.declared.store.Store.{Store}
 use Rattle.flt_store.specs.Store.{IsAlive, IsRunning, driver_of, numbered}
 use Rattle.flt_turn.specs.declared.vault.Entry.{Entry}
 use Rattle.flt_turn.specs.Seats.{main_seat}
+use Rattle.flt_life_model.specs.Applications.{answers_of}
 use Rattle.flt_life_model.specs.Answers.{Told}
 use Rattle.flt_life_model.specs.Causes.{AreCaused}
 use Rattle.flt_life_model.specs.Chain.{start_from}
@@ -31,7 +32,7 @@ use Rattle.flt_life_model.specs.SoFar.{IsCaused, IsKeptSince}
 use Rattle.flt_life_model.proofs.Causing.{are_caused}
 use Rattle.flt_lane.specs.Block.{HaveRunParts}
 use Rattle.flt_fork.specs.Lived.{CouldClose}
-use Rattle.flt_lane.specs.Living.{Carries, answers_of, drains_in, drains_of, saves_in, saves_of}
+use Rattle.flt_lane.specs.Living.{Carries, drains_in, drains_of, saves_in, saves_of}
 use Rattle.flt_lane.specs.Room.{IsLaneFor, IsPartFor}
 use Rattle.flt_lane.specs.Runs.{QueueSeat}
 use Rattle.flt_run.proofs.Counting.{life_drains, life_saves}

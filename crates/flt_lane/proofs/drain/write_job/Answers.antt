@@ -6,24 +6,16 @@ use Rattle.flt_flash.specs.Content.{bytes as holding}
 use Rattle.flt_flash.specs.State.{HasRisenBy}
 use Rattle.flt_store_model.specs.Layout.{application_number}
 use Rattle.flt_nvm.specs.Leaves.{IsEither}
-use Rattle.flt_store.specs.declared.fault.PutFault.{PutFault}
-use Rattle.flt_store.specs.declared.fault.PutFault.TheVariants as faults
 use Rattle.flt_store.specs.Store.{driver_of}
 use Rattle.flt_turn.specs.Sums.{one_if}
-use Rattle.flt_lane.specs.Draining.{WritesJob}
+use Rattle.flt_life_model.specs.Draining.{WritesJob}
+use Rattle.flt_life_model.proofs.Causing.{rose_by}
 use Rattle.flt_lane.proofs.drain.write_job.Goals as goal
 
 -- What was put, where that was answered.
 on_ok : {T E : Type 0} (result : Result T E) (P : Type 0) → OnOk result P → is_ok result ≡ true → P
 on_ok (Ok value) P holds is = holds
 on_ok (Err fault) P holds is = absurd (false≢true is)
-
--- Where the last sequence number is not in use, a job that could not be written met three faults.
-rose_by : (result : Result (Unit {0}) PutFault) (before after : ℕ) (spent : Bool) → (result ≡ Err faults.Flash → HasRisenBy 3 before after) → (result ≡ Err faults.SequenceSpent → IsTrue spent) → HasRisenBy 0 before after → IsFalse spent
-    → HasRisenBy (3 * one_if (not (is_ok result))) before after
-rose_by (Ok value) before after spent flash sequence counts unspent = omega (arith, counts)
-rose_by (Err faults.Flash) before after spent flash sequence counts unspent = let three = flash refl in omega (arith, three)
-rose_by (Err faults.SequenceSpent) before after spent flash sequence counts unspent = absurd (false≢true (sym unspent ∙ sequence refl))
 
 pub put_block-requires-clause-alive : goal.put_block-requires-clause-alive
 put_block-requires-clause-alive g c =

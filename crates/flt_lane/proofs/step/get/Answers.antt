@@ -10,17 +10,18 @@ use Rattle.flt_step.specs.declared.step.Step.TheVariants as steps
 use Rattle.flt_store.specs.declared.store.Store.{Store}
 use Rattle.flt_store.specs.Store.{IsAlive, IsRunning, driver_of}
 use Rattle.flt_life_model.specs.Answers.{Told}
-use Rattle.flt_life_model.specs.Applications.{GetsBy, MayHold, jobs_told, up_to_done}
+use Rattle.flt_life_model.specs.Applications.{AreHeld, GetsBy, MayHold, answers_of, jobs_told, up_to_done}
 use Rattle.flt_life_model.specs.Ordered.{Deed}
 use Rattle.flt_life_model.specs.declared.action.Action.TheVariants as action
 use Rattle.flt_life_model.specs.declared.answer.StepAnswer.TheVariants as answers
 use Rattle.flt_shared.specs.Call.{Seat}
 use Rattle.flt_life_model.specs.SoFar.{IsCaused}
 use Rattle.flt_life_model.proofs.Causing.{caused_read, caused_unread}
-use Rattle.flt_lane.specs.Living.{AreHeld, Carries, answers_of, drains_by, saves_by}
+use Rattle.flt_lane.specs.Living.{Carries, drains_by, saves_by}
 use Rattle.flt_lane.specs.Runs.{QueueSeat}
 use Rattle.flt_lane.proofs.Answering.{keeps, takes_deed}
-use Rattle.flt_lane.proofs.Carrying.{gets_bytes, gets_none, holds_deed, living_deed}
+use Rattle.flt_life_model.proofs.HeldBlocks.{gets_bytes, gets_none, held_by}
+use Rattle.flt_lane.proofs.Carrying.{holds_deed, living_deed}
 use Rattle.flt_life_model.proofs.Keeping.{IsNoSave}
 use Rattle.flt_lane.proofs.Leaving.{leaves_by_calls}
 use Rattle.flt_lane.proofs.Stepping.{none_made, none_queued}
@@ -38,11 +39,6 @@ read_carries c seat jobs earlier block told store now same runs no_save no_saves
   caused = causes;
   holds = λ alive first holds. holds_deed first jobs earlier (steps.Get block, told) (driver_of store).value (driver_of now).value (λ number below. same (application_number number)) no_drain no_job (gets alive first) holds;
 }
-
--- The block holds this by the drains before.
-held_by : (first : ℕ → Content) (past : History) (earlier : List Deed) (values : ℕ → Content) (block : ℕ) (content : Content) → block < applications → values (application_number block) ≡ content → AreHeld first past (jobs_told (answers_of earlier)) earlier values
-    → MayHold block (first (application_number block)) (up_to_done (jobs_told (answers_of earlier)) past) content
-held_by first past earlier values block content below is held = subst (MayHold block (first (application_number block)) (up_to_done (jobs_told (answers_of earlier)) past)) is (held.held block below)
 
 pub returns-in-Ok-true : goal.returns-in-Ok-true
 returns-in-Ok-true g c = record {

@@ -5,7 +5,7 @@ use Rattle.flt_step.specs.declared.step.Step.TheVariants as steps
 use Rattle.flt_store.specs.Store.{driver_of}
 use Rattle.flt_turn.specs.Call.{past}
 use Rattle.flt_life_model.proofs.Causing.{caused_saved, caused_failed}
-use Rattle.flt_lane.specs.Living.{answers_of}
+use Rattle.flt_life_model.specs.Applications.{answers_of}
 use Rattle.flt_lane.proofs.Carrying.{holds_deed}
 use Rattle.flt_lane.proofs.Saves.{living_saved, living_failed}
 use Rattle.flt_lane.proofs.Answering.{keeps, takes_deed}

@@ -23,4 +23,4 @@ returns-in-Refused g c =
     let before = talk left reads (g.K.Sink.held c.args.sink.now) (g.K.Sink.faults c.args.sink.now) in
     let after = talk left reads (g.K.Sink.held c.write_script_fault.new.sink) (g.K.Sink.faults c.write_script_fault.new.sink) in
     line_told g.K.Sink.held g.K.Sink.faults c.args.sink.now c.write_script_fault.new.sink reads reads left left (HasCause (dids_of c.args.dids) config before after) (Refused c.in-Refused.fault)
-    (script_fault_line c.in-Refused.fault) c.write_script_fault.result (number_of c.status_told.result) c.in-Refused.ensures (λ told. told) c.write_script_fault.ensures c.status_told.ensures
+    (script_fault_line c.in-Refused.fault) c.write_script_fault.result (number_of c.status_told.result) (λ told. (c.in-Refused.ensures.0, c.in-Refused.ensures.1, told)) c.write_script_fault.ensures c.status_told.ensures

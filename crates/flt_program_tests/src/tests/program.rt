@@ -1,5 +1,5 @@
 //! The whole program, which does what its words ask.
-use super::rows::{ONE, ONE_TOLD, table};
+use super::watches::{ONE, ONE_TOLD, table};
 use flt_did::DidTable;
 use flt_ea::{Eeprom, EepromMem};
 use flt_flash::{Bench, Flash, FlashMem};

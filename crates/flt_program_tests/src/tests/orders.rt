@@ -1,5 +1,5 @@
 //! Two lanes of a watch, held by a gate so that the one or the other makes its call first.
-use super::rows::{ONE, watched};
+use super::watches::{ONE, watched};
 use flt_lane::Gate;
 use std::sync::Wait;
 use std::sync::atomic::{AtomicU64, Ordering};

@@ -1,0 +1,4 @@
+use Rattle.flt_live.proofs.worked.pulled_comes_first.Goals as goal
+
+pub returns : goal.returns
+returns c = ?

@@ -1,0 +1,74 @@
+-- Worked sessions, whose definitions are computed.
+use Rattle.std.specs.Prelude.{◌≡◌, ◌^◌, ◌-◌, ℕ, List, [], ◌∷◌, ◌++◌, length, codes, true, false, Some, None}
+use Rattle.flt_config.specs.declared.config.Config.{Config}
+use Rattle.flt_config.specs.declared.persist.Persist.{Persist}
+use Rattle.flt_file.specs.declared.opening.OpenFault.TheVariants as shelves
+use Rattle.flt_restore.specs.declared.fault.StartFault.TheVariants as faults
+use Rattle.flt_step.specs.declared.step.Step.TheVariants as steps
+use Rattle.flt_life_model.specs.declared.answer.StepAnswer.TheVariants as answers
+use Rattle.flt_life_model.specs.declared.life.Boot.TheVariants as boots
+use Rattle.flt_live.specs.declared.living.LifeEnd.TheVariants.{Power}
+use Rattle.flt_live.specs.declared.reader.Line.TheVariants.{Fed, Cut, Ended}
+use Rattle.flt_live.specs.Ahead.{ahead_with}
+use Rattle.flt_live.specs.Heard.{AreHeard, Heard, Talk, answers_of, bytes_of}
+use Rattle.flt_live.specs.Made.{Made}
+use Rattle.flt_live.specs.Session.{Closed, Other, Refused, SessionEnd, Unread, Unreadable, is_call, status_due}
+use Rattle.flt_live.specs.Session as sessions
+use Rattle.flt_live.specs.Span.{ArePassed, LifeSpan, next_number}
+
+abbrev heard : List ℕ → List ℕ → Heard
+heard whole answer = record { whole = whole; ended = Fed; answer = answer }
+
+-- An empty line, and behind it a comment that no line feed ends, which is the newest.
+abbrev pub two_lines : List Heard
+two_lines = (record { whole = codes "#x"; ended = Cut; answer = 10 ∷ [] }) ∷ heard [] (10 ∷ []) ∷ []
+
+-- They make no step; each is answered by an empty line. A line that is not answered, one that is answered twice, and the end of the source
+-- are no lines that were heard so.
+pub record LinesAreHeard (c : Config) : Type 0 where
+  pub two : AreHeard c two_lines []
+  pub taken : bytes_of two_lines ≡ 10 ∷ codes "#x"
+  pub written : answers_of two_lines ≡ 10 ∷ 10 ∷ []
+  pub silent : (made : List Made) → ¬ AreHeard c (heard [] [] ∷ []) made
+  pub twice : (made : List Made) → ¬ AreHeard c (heard [] (10 ∷ 10 ∷ []) ∷ []) made
+  pub at_end : (made : List Made) → ¬ AreHeard c ((record { whole = []; ended = Ended; answer = 10 ∷ [] }) ∷ []) made
+  pub none_made : ¬ AreHeard c two_lines ((steps.Save, answers.Dark) ∷ [])
+
+-- Lives are counted from 1 on, and the count stays at its end. Of two lives the second begins where the first ended.
+pub record LivesFollow (c : Config) (start : Talk) : Type 0 where
+  pub first : next_number [] ≡ 1
+  pub second : (life : LifeSpan) → next_number (life ∷ []) ≡ 2
+  pub last : (lives : List LifeSpan) → length lives ≡ 4294967295 → next_number lives ≡ 4294967295
+  pub before_last : (lives : List LifeSpan) → length lives ≡ 4294967293 → next_number lives ≡ 4294967294
+  pub joined : (one two : LifeSpan) (to : Talk) → ArePassed c start (two ∷ one ∷ []) to → (one.from ≡ start) × (two.from ≡ one.after) × (to ≡ two.after)
+  pub numbered : (one two : LifeSpan) (to : Talk) → ArePassed c start (two ∷ one ∷ []) to → (one.number ≡ 1) × (two.number ≡ 2)
+  pub powered : (one two : LifeSpan) (to : Talk) → ArePassed c start (two ∷ one ∷ []) to → (one.end ≡ Power) × (two.end ≡ Power)
+
+-- The status of each end.
+pub record EndsAreTold : Type 0 where
+  pub unreadable : status_due Unreadable ≡ 3
+  pub other : status_due Other ≡ 2
+  pub size : status_due (Closed (shelves.Size 64 128)) ≡ 14
+  pub in_use : status_due (Closed shelves.InUse) ≡ 15
+  pub memory : status_due (Closed shelves.Memory) ≡ 7
+  pub no_file : status_due (Closed shelves.NoFile) ≡ 16
+  pub read_only : status_due (Closed shelves.ReadOnly) ≡ 16
+  pub unread : status_due Unread ≡ 3
+  pub started : (state : Persist) → status_due (sessions.Ended (boots.Started 7 state)) ≡ 0
+  pub dark : status_due (sessions.Ended boots.Dark) ≡ 5
+  pub spent : status_due (sessions.Ended (boots.Refused faults.SequenceSpent)) ≡ 8
+
+-- The words that ask for a session, behind the program's name.
+pub record WordsAsk : Type 0 where
+  pub none : is_call [] ≡ false
+  pub word : is_call (codes "live" ∷ []) ≡ false
+  pub config : is_call (codes "live" ∷ codes "a" ∷ []) ≡ true
+  pub image : is_call (codes "live" ∷ codes "a" ∷ codes "b" ∷ []) ≡ true
+  pub more : is_call (codes "live" ∷ codes "a" ∷ codes "b" ∷ codes "c" ∷ []) ≡ false
+  pub other : is_call (codes "lives" ∷ codes "a" ∷ []) ≡ false
+  pub prefix : is_call (codes "liv" ∷ codes "a" ∷ codes "b" ∷ []) ≡ false
+
+-- What was pulled comes before what is left.
+pub record PulledComesFirst : Type 0 where
+  pub told : ahead_with (1 ∷ 2 ∷ []) (Some (3 ∷ [])) ≡ Some (1 ∷ 2 ∷ 3 ∷ [])
+  pub untold : ahead_with (1 ∷ []) None ≡ None

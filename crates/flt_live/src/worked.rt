@@ -1,0 +1,29 @@
+//! Worked sessions, which the checker computes.
+ghost use Rattle.flt_config.specs.declared.config.Config.{Config};
+ghost use Rattle.flt_live.specs.Heard.{Talk};
+ghost use Rattle.flt_live.specs.Examples.{EndsAreTold, LinesAreHeard, LivesFollow, PulledComesFirst, WordsAsk};
+
+/// What two lines come to that make no step, and what is no line.
+pub fn lines_are_heard()
+    ensures { (c : Config) → LinesAreHeard c }
+{}
+
+/// How two lives follow on each other, and how they are counted.
+pub fn lives_follow()
+    ensures { (c : Config) (start : Talk) → LivesFollow c start }
+{}
+
+/// The status of each end.
+pub fn ends_are_told()
+    ensures { EndsAreTold }
+{}
+
+/// Which words ask for a session.
+pub fn words_ask()
+    ensures { WordsAsk }
+{}
+
+/// What was pulled comes before what is left.
+pub fn pulled_comes_first()
+    ensures { PulledComesFirst }
+{}

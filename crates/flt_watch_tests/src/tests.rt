@@ -1,4 +1,0 @@
-//! Watches of whole scripts, and the whole program.
-mod orders;
-mod program;
-mod rows;
