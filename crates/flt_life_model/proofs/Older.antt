@@ -130,14 +130,14 @@ one_of last held spare g of_held of_spare =
 module _ (c : Config) (given : IsGiven c) (held_stands : HeldStands) (spare_stands : SpareStands) (number : ℕ) (last : Option Generation) (boot : Moment) (ended : ℕ)
     (is : IsNoOlder c number last boot) where
   -- What it finds.
-  found_no_older : (g : Generation) → Finds c boot ended g → number ≤ g.number
+  pub found_no_older : (g : Generation) → Finds c boot ended g → number ≤ g.number
   found_no_older g finds =
       ⊎_elim
       (λ read. (let stands = (held_stands c given boot.value is.held).1 is.sound.sound.holds in by_read number (held c boot.value) is.held g is.no_older.0 stands read))
       (λ other. (let stands = (spare_stands c given boot.value is.spare).1 is.sound.sound.spares in by_read number (spare c boot.value) is.spare g is.no_older.1 stands other.0))
       finds.found
 
-  found_last_or_later : (g : Generation) → Finds c boot ended g → IsLastOrLater last g
+  pub found_last_or_later : (g : Generation) → Finds c boot ended g → IsLastOrLater last g
   found_last_or_later g finds =
       ⊎_elim
       (λ read. (let stands = (held_stands c given boot.value is.held).1 is.sound.sound.holds in same_read last (held c boot.value) is.held g is.last_or_later.0 stands read))

@@ -1,5 +1,5 @@
 -- A life of a session that began.
-use Rattle.std.proofs.Common.{◌≡◌, ℕ, refl, sym, subst}
+use Rattle.std.proofs.Common.{◌≡◌, ◌∙◌, ℕ, refl, sym, ap, subst, arith}
 use Rattle.std.specs.Prelude.{◌≢◌, IsFalse}
 use Rattle.flt_config.specs.declared.config.Config.{Config}
 use Rattle.flt_config.specs.declared.persist.Persist.{Persist}
@@ -17,7 +17,8 @@ use Rattle.flt_life_model.specs.Chain.{Finds, IsLifeBetween}
 use Rattle.flt_life_model.specs.Moment.{Moment, moment_of}
 use Rattle.flt_life_model.specs.declared.life.Boot.TheVariants.{Started, Dark, Refused}
 use Rattle.flt_lives.proofs.Starting.{finds, keeps, refused_is, refuses, same_moment}
-use Rattle.flt_live.specs.Begun.{IsBegunBy, without_steps}
+use Rattle.flt_life_model.specs.declared.life.Boot.{Boot}
+use Rattle.flt_live.specs.Begun.{Begins, IsBegunBy, without_steps}
 
 module _ {B : Type 0} {b : Ghosts B} (c : Config) (first : BlocksState) (before after : Store B b) (powers : PowersUpDriver first (driver_of before)) where
   pub begun_started : (number : ℕ) (state start : Persist) → start ≡ state → Starts c number state before after → Fits c state → IsBegunBy c first (Started number start) after
@@ -42,5 +43,20 @@ module _ {B : Type 0} {b : Ghosts B} (c : Config) (first : BlocksState) (before 
         (refused_is c before after fault (refuses fault other) follows told (keeps c (driver_of before) (driver_of after) follows left), refl, same)
 
 -- No life is refused for the flash.
-pub refused_other : {B : Type 0} {b : Ghosts B} (c : Config) (first : BlocksState) (fault : StartFault) (store : Store B b) → IsBegunBy c first (Refused fault) store → fault ≢ faults.Flash
-refused_other c first fault store begun = λ is. absurd (subst (λ (f : StartFault). IsBegunBy c first (Refused f) store) is begun).0
+pub refused_other : {B : Type 0} {b : Ghosts B} (c : Config) (first : BlocksState) (fault : StartFault) (store : Store B b) → Begins c first (Refused fault) store → fault ≢ faults.Flash
+refused_other c first fault store begun = λ is. absurd (subst (λ (f : StartFault). IsBegunBy c first (Refused f) store) is begun.is).0
+
+-- On the blocks that were there.
+pub begins_by : {B : Type 0} {b : Ghosts B} (c : Config) (first : BlocksState) (before after : Store B b) (boot : Boot) → PowersUpDriver first (driver_of before) → Follows (driver_of before) (driver_of after)
+    → SameApplications (driver_of before).value (driver_of after).value → IsBegunBy c first boot after → Begins c first boot after
+begins_by c first before after boot powers follows same is =
+    let counts = follows.counts in
+    let faults = ap (λ (d : BlocksState). d.device.faults) powers.rest in
+    record {
+      is = is;
+      numbers = follows.numbers ∙ ap (λ (d : BlocksState). d.numbers) powers.rest;
+      room = follows.room ∙ ap (λ (d : BlocksState). d.room) powers.rest;
+      applications = subst (λ (d : BlocksState). SameApplications d.value (driver_of after).value) powers.rest same;
+      no_new_damage = λ none. follows.no_new_damage (ap (λ (d : BlocksState). d.damage) powers.rest ∙ none);
+      counts = omega (arith, counts, faults);
+    }

@@ -13,7 +13,7 @@ use Rattle.flt_io.specs.declared.stream.StreamFault.{StreamFault}
 use Rattle.flt_io.specs.declared.stream.StreamFault.TheVariants as streams
 use Rattle.flt_restore.specs.declared.fault.StartFault.{StartFault}
 use Rattle.flt_store.specs.declared.store.Store.{Store}
-use Rattle.flt_store.specs.Store.{IsRunning, numbered}
+use Rattle.flt_store.specs.Store.{IsRunning, driver_of, numbered}
 use Rattle.flt_store_model.specs.Holding.{Generation}
 use Rattle.flt_life_model.specs.Chain.{start_from}
 use Rattle.flt_life_model.specs.declared.life.Boot.{Boot}
@@ -24,7 +24,7 @@ use Rattle.flt_lives.specs.Living.{IsLiving}
 use Rattle.flt_report.specs.Boot.{boot_line}
 use Rattle.flt_live.specs.declared.living.LifeEnd.{LifeEnd}
 use Rattle.flt_live.specs.declared.living.LifeEnd.TheVariants.{Power, Ended, Unread, Unwritten, Memory}
-use Rattle.flt_live.specs.Begun.{IsBegunBy}
+use Rattle.flt_live.specs.Begun.{Begins, IsBegunBy}
 use Rattle.flt_live.specs.Heard.{Says, Talk, answers_of}
 use Rattle.flt_live.specs.Lived.{GoesOnBy, IsLifeLived, IsLostFor, TakesDarkLines, TakesLines, UnlessLost, lost_by}
 use Rattle.flt_live.proofs.Hearing.{lost_anyway, lost_for, rose_later}
@@ -36,7 +36,7 @@ pub begins : {B : Type 0} {b : Ghosts B} (c : Config) (first : Generation) (unit
 begins c first unit store running stands = record { stands = stands; held = first; spare = first; running = running; kept = kept_first c first }
 
 -- What holds of a life that was not lost, and what follows from it.
-pub unless : (end : LifeEnd) (P Q : Type 0) → (P → Q) → UnlessLost end P → UnlessLost end Q
+unless : (end : LifeEnd) (P Q : Type 0) → (P → Q) → UnlessLost end P → UnlessLost end Q
 unless Power P Q more holds = more holds
 unless Ended P Q more holds = more holds
 unless Unread P Q more holds = more holds
@@ -56,30 +56,30 @@ on_taken fact result value is holds = subst (λ r. OnOk r fact) is holds
 
 module _ {B : Type 0} {b : Ghosts B} (c : Config) (number status : ℕ) (before : BlocksState) (begun last : Store B b) (unit : UnitView) (from after : Talk) (end : LifeEnd) where
   -- A life whose first line was written.
-  pub life_lived : (boot : Boot) → status ≡ status_by boot → IsBegunBy c before boot begun → (between : Talk) → Says (boot_line number boot) from between → from.write_faults ≤ between.write_faults
-      → UnlessLost end (GoesOnBy c boot begun last unit between after end) → IsLostFor between.write_faults after.write_faults end
+  pub life_lived : (boot : Boot) → status ≡ status_by boot → Begins c before boot begun → (between : Talk) → Says (boot_line number boot) from between → from.write_faults ≤ between.write_faults
+      → UnlessLost end (GoesOnBy c boot before.value begun last unit between after end) → IsLostFor between.write_faults after.write_faults end
       → from.read_faults ≤ after.read_faults → between.write_faults ≤ after.write_faults → IsLifeLived c number status before last unit from after end
   life_lived boot is begins between says later goes lost reads writes = record {
     boot = boot;
     status_is = is;
     begun = begun;
     is = begins;
-    said = unless end (GoesOnBy c boot begun last unit between after end)
-        ((t : Talk) × Says (boot_line number boot) from t × GoesOnBy c boot begun last unit t after end)
+    said = unless end (GoesOnBy c boot before.value begun last unit between after end)
+        ((t : Talk) × Says (boot_line number boot) from t × GoesOnBy c boot before.value begun last unit t after end)
         (λ holds. (between, says, holds)) goes;
     lost = lost_later end from.write_faults between.write_faults after.write_faults later lost;
     later = record { read = reads; write = omega (arith, later, writes) };
   }
 
   -- A life whose first line was not written.
-  pub life_lost : (boot : Boot) → status ≡ status_by boot → IsBegunBy c before boot begun → (fault : StreamFault) → end ≡ lost_by fault → (fault ≡ streams.Failed → Rose from.write_faults after.write_faults)
+  pub life_lost : (boot : Boot) → status ≡ status_by boot → Begins c before boot begun → (fault : StreamFault) → end ≡ lost_by fault → (fault ≡ streams.Failed → Rose from.write_faults after.write_faults)
       → from.read_faults ≤ after.read_faults → from.write_faults ≤ after.write_faults → IsLifeLived c number status before last unit from after end
   life_lost boot is begins fault lost rose reads writes = record {
     boot = boot;
     status_is = is;
     begun = begun;
     is = begins;
-    said = lost_anyway fault end ((t : Talk) × Says (boot_line number boot) from t × GoesOnBy c boot begun last unit t after end) lost;
+    said = lost_anyway fault end ((t : Talk) × Says (boot_line number boot) from t × GoesOnBy c boot before.value begun last unit t after end) lost;
     lost = lost_for from.write_faults from.write_faults after.write_faults fault end lost (omega arith) rose;
     later = record { read = reads; write = writes };
   }
@@ -87,20 +87,20 @@ module _ {B : Type 0} {b : Ghosts B} (c : Config) (number status : ℕ) (before 
 -- What a start-up left of a life that was started, and what follows its first line.
 module _ {B : Type 0} {b : Ghosts B} (c : Config) (before : BlocksState) (begun last : Store B b) (unit : UnitView) (between after : Talk) (end : LifeEnd) (boot : Boot) (number : ℕ) (state : Persist)
     (is : boot ≡ boots.Started number state) where
-  pub started : IsBegunBy c before boot begun → Fits c state × IsRunning c (numbered number state) (numbered number state) begun
-  started begins = let how = subst (λ (it : Boot). IsBegunBy c before it begun) is begins in (how.2, how.3)
+  pub started : Begins c before boot begun → Fits c state × IsRunning c (numbered number state) (numbered number state) begun
+  started begins = let how = subst (λ (it : Boot). IsBegunBy c before it begun) is begins.is in (how.2, how.3)
 
-  pub started_goes : UnlessLost end (TakesLines c (numbered number state) between after unit last end) → UnlessLost end (GoesOnBy c boot begun last unit between after end)
-  started_goes takes = subst (λ (it : Boot). UnlessLost end (GoesOnBy c it begun last unit between after end)) (sym is) takes
+  pub started_goes : UnlessLost end (TakesLines c (numbered number state) before.value (driver_of begun) between after unit last end) → UnlessLost end (GoesOnBy c boot before.value begun last unit between after end)
+  started_goes takes = subst (λ (it : Boot). UnlessLost end (GoesOnBy c it before.value begun last unit between after end)) (sym is) takes
 
-module _ {B : Type 0} {b : Ghosts B} (c : Config) (begun : Store B b) (unit : UnitView) (between after : Talk) (end : LifeEnd) (boot : Boot) where
-  pub dark_goes : boot ≡ boots.Dark → UnlessLost end (TakesDarkLines c between after end) → UnlessLost end (GoesOnBy c boot begun begun unit between after end)
+module _ {B : Type 0} {b : Ghosts B} (c : Config) (before : BlocksState) (begun : Store B b) (unit : UnitView) (between after : Talk) (end : LifeEnd) (boot : Boot) where
+  pub dark_goes : boot ≡ boots.Dark → UnlessLost end (TakesDarkLines c between after end) → UnlessLost end (GoesOnBy c boot before.value begun begun unit between after end)
   dark_goes is takes =
-      subst (λ (it : Boot). UnlessLost end (GoesOnBy c it begun begun unit between after end)) (sym is)
-      (unless end (TakesDarkLines c between after end) (GoesOnBy c boots.Dark begun begun unit between after end) (λ holds. (refl, holds)) takes)
+      subst (λ (it : Boot). UnlessLost end (GoesOnBy c it before.value begun begun unit between after end)) (sym is)
+      (unless end (TakesDarkLines c between after end) (GoesOnBy c boots.Dark before.value begun begun unit between after end) (λ holds. (refl, holds)) takes)
 
-  pub refused_goes : (fault : StartFault) → boot ≡ boots.Refused fault → after ≡ between → end ≡ Ended → UnlessLost end (GoesOnBy c boot begun begun unit between after end)
+  pub refused_goes : (fault : StartFault) → boot ≡ boots.Refused fault → after ≡ between → end ≡ Ended → UnlessLost end (GoesOnBy c boot before.value begun begun unit between after end)
   refused_goes fault is same ends =
-      subst (λ (it : Boot). UnlessLost end (GoesOnBy c it begun begun unit between after end)) (sym is)
-      (subst (λ (e : LifeEnd). UnlessLost e (GoesOnBy c (boots.Refused fault) begun begun unit between after e)) (sym ends)
+      subst (λ (it : Boot). UnlessLost end (GoesOnBy c it before.value begun begun unit between after end)) (sym is)
+      (subst (λ (e : LifeEnd). UnlessLost e (GoesOnBy c (boots.Refused fault) before.value begun begun unit between after e)) (sym ends)
       (refl, ap (λ (t : Talk). t.ahead) same, ap (λ (t : Talk). t.held) same, refl))

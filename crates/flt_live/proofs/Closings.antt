@@ -1,5 +1,5 @@
 -- How a session ends, and that a script does nothing.
-use Rattle.std.proofs.Common.{◌≡◌, ℕ, ◌≤◌, List, Option, Result, Ok, Err, inl, inr, refl}
+use Rattle.std.proofs.Common.{◌≡◌, ℕ, ◌≤◌, Bool, List, Option, Result, Ok, Err, inl, inr, refl}
 use Rattle.std.specs.Prelude.{◌⊎◌}
 use Rattle.std.specs.Io.KnownBytes.{Appends, IsAtEnd}
 use Rattle.flt_config.specs.declared.config.DidUse.{DidUse}
@@ -29,22 +29,22 @@ ends_for P Q before after status more (inl ended) = inl (record { end = ended.en
 ends_for P Q before after status more (inr cut) = inr cut
 
 -- A flash was not given, and bytes say why, or were not written.
-pub shelf_ends : (script : ScriptContent) (fault : OpenFault) (before between after : Talk) (status : ℕ) → IsIdle script.lives → HavePassed script.config before between → after.ahead ≡ between.ahead → before.write_faults ≤ between.write_faults
+pub shelf_ends : (tells : Bool) (script : ScriptContent) (fault : OpenFault) (before between after : Talk) (status : ℕ) → IsIdle script.lives → HavePassed tells script.config before between → after.ahead ≡ between.ahead → before.write_faults ≤ between.write_faults
     → ((status ≡ status_of_shelf fault) × ((text : List ℕ) × Appends between.held after.held text)) ⊎ ((status ≡ 7) ⊎ ((status ≡ 4) × Rose between.write_faults after.write_faults))
-    → EndsFor (IsEndOf script before after) before after status
-shelf_ends script fault before between after status idle lived ahead later (inl (is, text, written)) =
-    inl (record { end = Closed fault; cause = (idle, record { between = between; lived = lived; ahead = ahead; text = text; written = written }); status_is = is })
-shelf_ends script fault before between after status idle lived ahead later (inr (inl is)) = inr (inl is)
-shelf_ends script fault before between after status idle lived ahead later (inr (inr (is, rose))) =
+    → EndsFor (IsEndOf tells script before after) before after status
+shelf_ends tells script fault before between after status idle lived ahead later (inl (is, told)) =
+    inl (record { end = Closed fault; cause = (idle, record { between = between; lived = lived; ahead = ahead; text = told.0; written = told.1 }); status_is = is })
+shelf_ends tells script fault before between after status idle lived ahead later (inr (inl is)) = inr (inl is)
+shelf_ends tells script fault before between after status idle lived ahead later (inr (inr (is, rose))) =
     inr (inr (is, rose_later before.write_faults between.write_faults after.write_faults later rose))
 
 -- A session whose configuration is a script.
-pub session_of : (dids : List DidUse) (config : Reading) (before after : Talk) (status : ℕ) (script : ScriptContent) → IsAtEnd config.left_after → AreScript dids config.left script
-    → EndsFor (IsEndOf script before after) before after status → IsSession dids config before after status
-session_of dids config before after status script at_end are ended =
-    ends_for (IsEndOf script before after) (HasCause dids config before after) before after status more ended
+pub session_of : (tells : Bool) (dids : List DidUse) (config : Reading) (before after : Talk) (status : ℕ) (script : ScriptContent) → IsAtEnd config.left_after → AreScript dids config.left script
+    → EndsFor (IsEndOf tells script before after) before after status → IsSession tells dids config before after status
+session_of tells dids config before after status script at_end are ended =
+    ends_for (IsEndOf tells script before after) (HasCause tells dids config before after) before after status more ended
   where
-    more : (end : SessionEnd) → IsEndOf script before after end → HasCause dids config before after end
+    more : (end : SessionEnd) → IsEndOf tells script before after end → HasCause tells dids config before after end
     more Unreadable cause = absurd cause
     more (Refused fault) cause = absurd cause
     more Other cause = (script, at_end, are, cause)

@@ -5,7 +5,10 @@ use Rattle.std.proofs.lemmas.List.{append-nil}
 use Rattle.std.specs.Io.KnownBytes.{Appends, Consumes}
 use Rattle.flt_config.specs.declared.config.Config.{Config}
 use Rattle.flt_dcm.specs.Unit.{UnitView}
+use Rattle.flt_flash.specs.Blocks.{BlocksState}
+use Rattle.flt_flash.specs.Content.{Content}
 use Rattle.flt_flash.specs.declared.blocks.Blocks.{Ghosts}
+use Rattle.flt_flash.proofs.CallsInARow.{no_call}
 use Rattle.flt_io.specs.Fault.{Rose}
 use Rattle.flt_io.specs.Written.{Writes}
 use Rattle.flt_io.specs.declared.stream.StreamFault.{StreamFault}
@@ -13,7 +16,8 @@ use Rattle.flt_io.specs.declared.stream.StreamFault.TheVariants as streams
 use Rattle.flt_queue.specs.declared.queue.JobQueue.{JobQueue}
 use Rattle.flt_queue.specs.Stands as standing
 use Rattle.flt_store.specs.declared.store.Store.{Store}
-use Rattle.flt_store_model.specs.Holding.{Generation}
+use Rattle.flt_store.specs.Store.{driver_of}
+use Rattle.flt_store_model.specs.Holding.{Generation, SameApplications}
 use Rattle.flt_life_model.specs.declared.answer.StepAnswer.TheVariants.{Dark}
 use Rattle.flt_lives.specs.Living.{IsLiving}
 use Rattle.flt_live.specs.declared.line.Answered.{Answered}
@@ -86,53 +90,39 @@ failed_rose held count before after text result fault is writes same = writes.ca
 
 -- ---- the lines so far, in a life that was started
 
-module _ {B : Type 0} {b : Ghosts B} (c : Config) (first : Generation) where
+module _ {B : Type 0} {b : Ghosts B} (c : Config) (first : Generation) (found : ℕ → Content) (begun : BlocksState) where
   pub record IsGoing (before now : Talk) (unit : UnitView) (queue : JobQueue) (store : Store B b) : Type 0 where
     pub heard : List Heard
     pub made : List Made
     pub are : AreHeard c heard made
-    pub midway : IsMidway c first made unit queue store
+    pub midway : IsMidway c first found begun made unit queue store
     pub written : Appends before.held now.held (answers_of heard)
     pub read : Consumes before.ahead now.ahead (bytes_of heard)
 
-  pub going_first : (now : Talk) (unit : UnitView) (queue : JobQueue) (store : Store B b) → IsLiving c first [] [] unit store → standing.Stands c.blocks [] queue → IsGoing now now unit queue store
-  going_first now unit queue store living stands = record {
-    heard = [];
-    made = [];
-    are = refl;
-    midway = record { jobs = []; living = living; queued = stands; answered = refl };
-    written = nothing_more now.held;
-    read = none_more now.ahead;
-  }
-    where
-      none_more : (ahead : Option (List ℕ)) → Consumes ahead ahead []
-      none_more None = tt
-      none_more (Some bytes) = refl
-
   -- Nothing changed.
   moved : (made : List Made) (unit next_unit : UnitView) (queue next_queue : JobQueue) (store next_store : Store B b) → next_unit ≡ unit → next_queue ≡ queue → next_store ≡ store
-      → IsMidway c first made unit queue store → IsMidway c first made next_unit next_queue next_store
+      → IsMidway c first found begun made unit queue store → IsMidway c first found begun made next_unit next_queue next_store
   moved made unit next_unit queue next_queue store next_store unit_is queue_is store_is mid =
-      subst (λ (u : UnitView). IsMidway c first made u next_queue next_store) (sym unit_is)
-      (subst (λ (q : JobQueue). IsMidway c first made unit q next_store) (sym queue_is)
-      (subst (λ (s : Store B b). IsMidway c first made unit queue s) (sym store_is) mid))
+      subst (λ (u : UnitView). IsMidway c first found begun made u next_queue next_store) (sym unit_is)
+      (subst (λ (q : JobQueue). IsMidway c first found begun made unit q next_store) (sym queue_is)
+      (subst (λ (s : Store B b). IsMidway c first found begun made unit queue s) (sym store_is) mid))
 
   -- What a line comes to, by what is due.
   comes : (made : List Made) (what : Due) (line : List ℕ) (unit next_unit : UnitView) (queue next_queue : JobQueue) (store next_store : Store B b) → what ≢ due.Power
-      → Answers c what line unit next_unit queue next_queue store next_store → IsMidway c first made unit queue store
-      → (more : List Made) × ComesTo what line made more × IsMidway c first more next_unit next_queue next_store
+      → Answers c what line unit next_unit queue next_queue store next_store → IsMidway c first found begun made unit queue store
+      → (more : List Made) × ComesTo what line made more × IsMidway c first found begun more next_unit next_queue next_store
   comes made due.Nothing line unit next_unit queue next_queue store next_store other (is, unit_is, queue_is, store_is) mid =
       (made, (is, refl), moved made unit next_unit queue next_queue store next_store unit_is queue_is store_is mid)
   comes made (due.Refuse refusal) line unit next_unit queue next_queue store next_store other (is, unit_is, queue_is, store_is) mid =
       (made, (is, refl), moved made unit next_unit queue next_queue store next_store unit_is queue_is store_is mid)
   comes made (due.Make step) line unit next_unit queue next_queue store next_store other (answer, is, makes) mid =
-      ((step, answer) ∷ made, (answer, is, refl), makes first made mid)
+      ((step, answer) ∷ made, (answer, is, refl), makes first found begun made mid)
   comes made due.Power line unit next_unit queue next_queue store next_store other answers mid = absurd (other refl)
 
   -- A `power` is not answered.
   stays : (made : List Made) (what : Due) (line : List ℕ) (unit next_unit : UnitView) (queue next_queue : JobQueue) (store next_store : Store B b) → what ≡ due.Power
-      → Answers c what line unit next_unit queue next_queue store next_store → IsMidway c first made unit queue store
-      → (line ≡ []) × IsMidway c first made next_unit next_queue next_store
+      → Answers c what line unit next_unit queue next_queue store next_store → IsMidway c first found begun made unit queue store
+      → (line ≡ []) × IsMidway c first found begun made next_unit next_queue next_store
   stays made due.Nothing line unit next_unit queue next_queue store next_store is answers mid = absurd (cc is)
   stays made (due.Refuse refusal) line unit next_unit queue next_queue store next_store is answers mid = absurd (cc is)
   stays made (due.Make step) line unit next_unit queue next_queue store next_store is answers mid = absurd (cc is)
@@ -173,7 +163,7 @@ module _ {B : Type 0} {b : Ghosts B} (c : Config) (first : Generation) where
         }
 
     -- It was a `power`.
-    pub power_ends : result ≡ Ok told.Power → TakesLines c first start (talk next_ahead next_reads (held next_sink) (count next_sink)) next_unit next_store ends.Power
+    pub power_ends : result ≡ Ok told.Power → TakesLines c first found begun start (talk next_ahead next_reads (held next_sink) (count next_sink)) next_unit next_store ends.Power
     power_ends is =
         let answers = given (due_at c text) answered.line unit next_unit queue next_queue store next_store result told.Power is answered.answers in
         let power = is_power (due_at c text) (told_by (due_at c text) result told.Power is answered.told) in
@@ -199,7 +189,7 @@ module _ {B : Type 0} {b : Ghosts B} (c : Config) (first : Generation) where
     still = subst (λ held. Appends start.held held (answers_of going.heard)) (sym same) going.written
 
     -- There was no line more.
-    pub end_ends : (kept : List ℕ) → TakesLine now.ahead next.ahead Ended kept → TakesLines c first start next unit store ends.Ended
+    pub end_ends : (kept : List ℕ) → TakesLine now.ahead next.ahead Ended kept → TakesLines c first found begun start next unit store ends.Ended
     end_ends kept taken = record {
       heard = going.heard;
       made = going.made;
@@ -214,8 +204,40 @@ module _ {B : Type 0} {b : Ghosts B} (c : Config) (first : Generation) where
     }
 
     -- The source failed.
-    pub unread_ends : Rose start.read_faults next.read_faults → TakesLines c first start next unit store ends.Unread
+    pub unread_ends : Rose start.read_faults next.read_faults → TakesLines c first found begun start next unit store ends.Unread
     unread_ends rose = record { heard = going.heard; made = going.made; queue = queue; are = going.are; midway = going.midway; written = still; ended = rose }
+
+none_more : (ahead : Option (List ℕ)) → Consumes ahead ahead []
+none_more None = tt
+none_more (Some bytes) = refl
+
+-- No line was read.
+pub going_first : {B : Type 0} {b : Ghosts B} (c : Config) (first : Generation) (found : ℕ → Content) (now : Talk) (unit : UnitView) (queue : JobQueue) (store : Store B b) → IsLiving c first [] [] unit store
+    → SameApplications found (driver_of store).value → standing.Stands c.blocks [] queue → IsGoing c first found (driver_of store) now now unit queue store
+going_first c first found now unit queue store living same stands = record {
+  heard = [];
+  made = [];
+  are = refl;
+  midway = record {
+    jobs = [];
+    living = living;
+    queued = stands;
+    answered = refl;
+    follows = no_call (driver_of store);
+    caused = record {
+      held_now = living.held;
+      spare_now = living.spare;
+      running = living.running;
+      flash = omega arith;
+      jobs = λ unspent. omega arith;
+      spent = λ failed. absurd failed;
+      sequence = λ failed. absurd failed;
+    };
+    held = record { done = refl; held = same; got = tt; told = omega arith };
+  };
+  written = nothing_more now.held;
+  read = none_more now.ahead;
+}
 
 -- ---- the lines so far, in a dark life
 

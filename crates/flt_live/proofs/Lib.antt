@@ -7,5 +7,7 @@ pub mod Says
 pub mod Beginnings
 pub mod Hearing
 pub mod Boots
+pub mod Seen
 pub mod Spans
 pub mod Closings
+pub mod Sessions

@@ -1,12 +1,17 @@
 -- One step more of a life, by what it does.
-use Rattle.std.proofs.Common.{◌≡◌, ◌∷◌, ℕ, List, refl, sym, subst}
+use Rattle.std.proofs.Common.{◌≡◌, ◌<◌, ◌∷◌, ℕ, List, refl, sym, subst, arith}
 use Rattle.flt_config.specs.declared.config.Config.{Config}
+use Rattle.flt_flash.specs.Blocks.{BlocksState}
+use Rattle.flt_flash.specs.Calls.{Follows, SameValues}
+use Rattle.flt_flash.specs.Content.{Content, missing, bytes as holding}
 use Rattle.flt_flash.specs.declared.blocks.Blocks.{Ghosts}
+use Rattle.flt_flash.proofs.CallsInARow.{more_calls, no_call}
 use Rattle.flt_model.specs.Start.{Start, History as Calls}
 use Rattle.flt_model.specs.Answer.{answer}
 use Rattle.flt_model.specs.Reply.{Reply}
 use Rattle.flt_model.specs.declared.call.Op.{Op}
-use Rattle.flt_store_model.specs.Holding.{Generation}
+use Rattle.flt_store_model.specs.Holding.{Generation, SameApplications}
+use Rattle.flt_store_model.specs.Layout.{applications, application_number}
 use Rattle.flt_dcm.specs.Unit.{Stands, UnitView}
 use Rattle.flt_queue.specs.declared.job.QueueOp.{QueueOp}
 use Rattle.flt_queue.specs.declared.job.QueueReply.{QueueReply}
@@ -15,39 +20,90 @@ use Rattle.flt_queue.specs.Queue.{History, answer_q}
 use Rattle.flt_queue.specs.Stands as standing
 use Rattle.flt_step.specs.declared.step.Step.{Step}
 use Rattle.flt_store.specs.declared.store.Store.{Store}
-use Rattle.flt_store.specs.Store.{IsRunning}
-use Rattle.flt_life_model.specs.Actions.{IsStepCall, action_of}
+use Rattle.flt_store.specs.Store.{IsRunning, driver_of}
+use Rattle.flt_life_model.specs.Actions.{IsQueueCall, IsStepCall, action_of}
 use Rattle.flt_life_model.specs.Answers.{Told}
+use Rattle.flt_life_model.specs.Applications.{AreHeld, GetsBy, answers_of, jobs_told}
 use Rattle.flt_life_model.specs.Chain.{start_from}
 use Rattle.flt_life_model.specs.Journal.{Journal, calls_of}
+use Rattle.flt_life_model.specs.Ordered.{Deed}
 use Rattle.flt_life_model.specs.Played.{IsGot}
+use Rattle.flt_life_model.specs.SoFar.{IsCaused}
 use Rattle.flt_life_model.specs.declared.action.Action.{Action}
 use Rattle.flt_life_model.specs.declared.action.Action.TheVariants as actions
 use Rattle.flt_life_model.specs.declared.answer.StepAnswer.TheVariants as answers
+use Rattle.flt_life_model.proofs.Causing.{caused_first}
+use Rattle.flt_life_model.proofs.HeldBlocks.{apart, held_beside, held_by, held_deed}
 use Rattle.flt_life_model.proofs.Keeping.{kept_entry, kept_other}
-use Rattle.flt_lives.specs.Living.{IsLiving, with_answer}
-use Rattle.flt_live.specs.Draining.{Drains}
-use Rattle.flt_live.specs.Made.{IsAnswered, IsMidway, IsSave, MakesStep, Made, deeds_of, journal_of, with_calls, with_save}
+use Rattle.flt_lives.specs.Living.{IsLiving}
+use Rattle.flt_live.specs.Draining.{HasDrained}
+use Rattle.flt_live.specs.Made.{Finds, IsAnswered, IsMidway, IsSave, MakesStep, Made, deeds_in, deeds_of, journal_of, with_calls, with_deed_by, with_save}
 
 module _ {B : Type 0} {b : Ghosts B} (c : Config) (step : Step) (told : Told) where
-  midway_more : (action : Action) → action_of step ≡ action → (first : Generation) (made : List Made) (unit next_unit : UnitView) (queue next_queue : JobQueue) (store next_store : Store B b) (mid : IsMidway c first made unit queue store) (jobs : History)
-      → IsLiving c first (with_calls action told (journal_of made)) (with_answer action told (deeds_of made)) next_unit next_store → standing.Stands c.blocks jobs next_queue
-      → IsAnswered (start_from c first.state) (journal_of made) mid.jobs action told jobs → IsMidway c first ((step, told) ∷ made) next_unit next_queue next_store
-  midway_more action is first made unit next_unit queue next_queue store next_store mid jobs living queued answered = record {
+  midway_more : (action : Action) → action_of step ≡ action → (first : Generation) (found : ℕ → Content) (begun : BlocksState) (made : List Made) (unit next_unit : UnitView) (queue next_queue : JobQueue) (store next_store : Store B b)
+      (mid : IsMidway c first found begun made unit queue store) (jobs : History)
+      → IsLiving c first (with_calls action told (journal_of made)) (answers_of (with_deed_by action step told (deeds_in made))) next_unit next_store → standing.Stands c.blocks jobs next_queue
+      → IsAnswered (start_from c first.state) (journal_of made) mid.jobs action told jobs → Follows (driver_of store) (driver_of next_store)
+      → IsCaused c begun.device.faults (answers_of (with_deed_by action step told (deeds_in made))) next_store
+      → AreHeld found jobs (jobs_told (answers_of (with_deed_by action step told (deeds_in made)))) (with_deed_by action step told (deeds_in made)) (driver_of next_store).value
+      → IsMidway c first found begun ((step, told) ∷ made) next_unit next_queue next_store
+  midway_more action is first found begun made unit next_unit queue next_queue store next_store mid jobs living queued answered follows caused held = record {
     jobs = jobs;
-    living = subst (λ (does : Action). IsLiving c first (with_calls does told (journal_of made)) (with_answer does told (deeds_of made)) next_unit next_store) (sym is) living;
+    living = subst (λ (does : Action). IsLiving c first (with_calls does told (journal_of made)) (answers_of (with_deed_by does step told (deeds_in made))) next_unit next_store) (sym is) living;
     queued = queued;
     answered = (mid.jobs, mid.answered, subst (λ (does : Action). IsAnswered (start_from c first.state) (journal_of made) mid.jobs does told jobs) (sym is) answered);
+    follows = more_calls begun (driver_of store) (driver_of next_store) mid.follows follows;
+    caused = subst (λ (does : Action). IsCaused c begun.device.faults (answers_of (with_deed_by does step told (deeds_in made))) next_store) (sym is) caused;
+    held = subst (λ (does : Action). AreHeld found jobs (jobs_told (answers_of (with_deed_by does step told (deeds_in made)))) (with_deed_by does step told (deeds_in made)) (driver_of next_store).value) (sym is) held;
   }
+
+-- A save tells of no job.
+save_tells_none : (told : Told) (earlier : List Told) → IsSave told → jobs_told (told ∷ earlier) ≡ jobs_told earlier
+save_tells_none (answers.Saved number) earlier is = refl
+save_tells_none (answers.SaveFailed fault) earlier is = refl
+save_tells_none (answers.Dem reply) earlier is = absurd is
+save_tells_none (answers.Queue reply) earlier is = absurd is
+save_tells_none (answers.Drained written failed) earlier is = absurd is
+save_tells_none (answers.Bytes found) earlier is = absurd is
+save_tells_none answers.NoBlock earlier is = absurd is
+save_tells_none answers.BlockFlash earlier is = absurd is
+save_tells_none answers.Armed earlier is = absurd is
+save_tells_none answers.Dark earlier is = absurd is
+
+-- Nor does a read; it is answered by what the block holds.
+module _ (first : ℕ → Content) (past : History) (earlier : List Deed) (values : ℕ → Content) (block : ℕ) (below : block < applications) where
+  read_tells_none : (told : Told) → Finds (values (application_number block)) told → jobs_told (told ∷ answers_of earlier) ≡ jobs_told (answers_of earlier)
+  read_tells_none (answers.Bytes found) is = refl
+  read_tells_none answers.NoBlock is = refl
+  read_tells_none answers.BlockFlash is = refl
+  read_tells_none (answers.Saved number) is = absurd is
+  read_tells_none (answers.SaveFailed fault) is = absurd is
+  read_tells_none (answers.Dem reply) is = absurd is
+  read_tells_none (answers.Queue reply) is = absurd is
+  read_tells_none (answers.Drained written failed) is = absurd is
+  read_tells_none answers.Armed is = absurd is
+  read_tells_none answers.Dark is = absurd is
+
+  read_gets : (told : Told) → Finds (values (application_number block)) told → AreHeld first past (jobs_told (answers_of earlier)) earlier values → GetsBy first past earlier (actions.Get block) told
+  read_gets (answers.Bytes found) is held = held_by first past earlier values block (holding found.items) below is held
+  read_gets answers.NoBlock is held = held_by first past earlier values block missing below is held
+  read_gets answers.BlockFlash is held = tt
+  read_gets (answers.Saved number) is held = absurd is
+  read_gets (answers.SaveFailed fault) is held = absurd is
+  read_gets (answers.Dem reply) is held = absurd is
+  read_gets (answers.Queue reply) is held = absurd is
+  read_gets (answers.Drained written failed) is held = absurd is
+  read_gets answers.Armed is held = absurd is
+  read_gets answers.Dark is held = absurd is
 
 module _ {B : Type 0} {b : Ghosts B} (c : Config) (step : Step) where
   pub made_call : (op : Op) (place : ℕ) (reply : Reply) → action_of step ≡ actions.Call op → IsStepCall op → (unit next_unit : UnitView) (queue : JobQueue) (store : Store B b)
       → ((life : Start) (past : Calls) → Stands life past unit → Stands life (op ∷ past) next_unit) → ((life : Start) (past : Calls) → Stands life past unit → reply ≡ answer life past op)
       → MakesStep c step (answers.Dem (record { place = place; reply = reply })) unit next_unit queue queue store store
-  made_call op place reply is step_call unit next_unit queue store stands replied = λ first made mid.
+  made_call op place reply is step_call unit next_unit queue store stands replied = λ first found begun made mid.
       let start = start_from c first.state in
       let living = mid.living in
-      midway_more c step (answers.Dem (record { place = place; reply = reply })) (actions.Call op) is first made unit next_unit queue queue store store mid mid.jobs
+      midway_more c step (answers.Dem (record { place = place; reply = reply })) (actions.Call op) is first found begun made unit next_unit queue queue store store mid mid.jobs
       (record {
         stands = stands start (calls_of (journal_of made)) living.stands;
         held = living.held;
@@ -55,36 +111,49 @@ module _ {B : Type 0} {b : Ghosts B} (c : Config) (step : Step) where
         running = living.running;
         kept = kept_entry c first (journal_of made) (deeds_of made) living.held living.spare living.kept 0 op step_call;
       })
-      mid.queued (replied start (calls_of (journal_of made)) living.stands, refl)
+      mid.queued (replied start (calls_of (journal_of made)) living.stands, refl) (no_call (driver_of store)) mid.caused mid.held
 
-  pub made_queue : (op : QueueOp) (place : ℕ) (reply : QueueReply) → action_of step ≡ actions.Queue op → (unit : UnitView) (queue next_queue : JobQueue) (store : Store B b)
+  pub made_queue : (op : QueueOp) (place : ℕ) (reply : QueueReply) → action_of step ≡ actions.Queue op → IsQueueCall op → (unit : UnitView) (queue next_queue : JobQueue) (store : Store B b)
       → ((jobs : History) → standing.Stands c.blocks jobs queue → standing.Stands c.blocks (op ∷ jobs) next_queue) → ((jobs : History) → standing.Stands c.blocks jobs queue → reply ≡ answer_q jobs op)
       → MakesStep c step (answers.Queue (record { place = place; reply = reply })) unit unit queue next_queue store store
-  made_queue op place reply is unit queue next_queue store stands replied = λ first made mid.
-      midway_more c step (answers.Queue (record { place = place; reply = reply })) (actions.Queue op) is first made unit unit queue next_queue store store mid (op ∷ mid.jobs)
-      mid.living (stands mid.jobs mid.queued) (replied mid.jobs mid.queued, refl)
+  made_queue op place reply is queue_call unit queue next_queue store stands replied = λ first found begun made mid.
+      midway_more c step (answers.Queue (record { place = place; reply = reply })) (actions.Queue op) is first found begun made unit unit queue next_queue store store mid (op ∷ mid.jobs)
+      mid.living (stands mid.jobs mid.queued) (replied mid.jobs mid.queued, refl) (no_call (driver_of store)) mid.caused
+      (held_beside found (jobs_told (deeds_of made)) (deeds_in made) (driver_of store).value op mid.jobs (apart op queue_call) mid.held)
 
   pub made_save : (told : Told) → action_of step ≡ actions.Save → IsSave told → (unit next_unit : UnitView) (queue : JobQueue) (store next_store : Store B b)
       → ((first : Generation) (journal : Journal) (earlier : List Told) → IsLiving c first journal earlier unit store → IsLiving c first (with_save told journal) (told ∷ earlier) next_unit next_store)
+      → ((begun : ℕ) (earlier : List Told) → IsCaused c begun earlier store → IsCaused c begun (told ∷ earlier) next_store)
+      → SameApplications (driver_of store).value (driver_of next_store).value → Follows (driver_of store) (driver_of next_store)
       → MakesStep c step told unit next_unit queue queue store next_store
-  made_save told is saved unit next_unit queue store next_store living = λ first made mid.
-      midway_more c step told actions.Save is first made unit next_unit queue queue store next_store mid mid.jobs (living first (journal_of made) (deeds_of made) mid.living) mid.queued (saved, refl)
+  made_save told is saved unit next_unit queue store next_store living caused same follows = λ first found begun made mid.
+      midway_more c step told actions.Save is first found begun made unit next_unit queue queue store next_store mid mid.jobs (living first (journal_of made) (deeds_of made) mid.living) mid.queued (saved, refl) follows
+      (caused begun.device.faults (deeds_of made) mid.caused)
+      (held_deed found (deeds_in made) (step, told) (driver_of store).value (driver_of next_store).value same (save_tells_none told (deeds_of made) saved) mid.jobs
+      (λ held. subst (λ (does : Action). GetsBy found mid.jobs (deeds_in made) does told) (sym is) tt) mid.held)
 
-  pub made_get : (told : Told) (block : ℕ) → action_of step ≡ actions.Get block → IsGot told → (unit : UnitView) (queue : JobQueue) (store next_store : Store B b)
+  pub made_get : (told : Told) (block : ℕ) → action_of step ≡ actions.Get block → IsGot told → block < applications → (unit : UnitView) (queue : JobQueue) (store next_store : Store B b)
       → ((first : Generation) (journal : Journal) (earlier : List Told) → IsLiving c first journal earlier unit store → IsLiving c first journal (told ∷ earlier) unit next_store)
+      → ((begun : ℕ) (earlier : List Told) → IsCaused c begun earlier store → IsCaused c begun (told ∷ earlier) next_store)
+      → Finds ((driver_of store).value (application_number block)) told → SameValues (driver_of store) (driver_of next_store) → Follows (driver_of store) (driver_of next_store)
       → MakesStep c step told unit unit queue queue store next_store
-  made_get told block is got unit queue store next_store living = λ first made mid.
-      midway_more c step told (actions.Get block) is first made unit unit queue queue store next_store mid mid.jobs (living first (journal_of made) (deeds_of made) mid.living) mid.queued (got, refl)
+  made_get told block is got below unit queue store next_store living caused reads same follows = λ first found begun made mid.
+      midway_more c step told (actions.Get block) is first found begun made unit unit queue queue store next_store mid mid.jobs (living first (journal_of made) (deeds_of made) mid.living) mid.queued (got, refl) follows
+      (caused begun.device.faults (deeds_of made) mid.caused)
+      (held_deed found (deeds_in made) (step, told) (driver_of store).value (driver_of next_store).value (λ number small. same (application_number number))
+      (read_tells_none found mid.jobs (deeds_in made) (driver_of store).value block below told reads) mid.jobs
+      (λ held. subst (λ (does : Action). GetsBy found mid.jobs (deeds_in made) does told) (sym is) (read_gets found mid.jobs (deeds_in made) (driver_of store).value block below told reads held)) mid.held)
 
   pub made_drain : (written failed : ℕ) → action_of step ≡ actions.Drain → (unit : UnitView) (queue next_queue : JobQueue) (store next_store : Store B b)
-      → ((held spare : Generation) → IsRunning c held spare store → IsRunning c held spare next_store)
-      → ((jobs : History) → standing.Stands c.blocks jobs queue → (after : History) × Drains jobs written failed after × standing.Stands c.blocks after next_queue)
+      → ((held spare : Generation) → IsRunning c held spare store → IsRunning c held spare next_store) → Follows (driver_of store) (driver_of next_store)
+      → ((jobs : History) → standing.Stands c.blocks jobs queue → HasDrained c jobs written failed next_queue store next_store)
       → MakesStep c step (answers.Drained written failed) unit unit queue next_queue store next_store
-  made_drain written failed is unit queue next_queue store next_store running drained = λ first made mid.
+  made_drain written failed is unit queue next_queue store next_store running follows drained = λ first found begun made mid.
       let told : Told = answers.Drained written failed in
       let done = drained mid.jobs mid.queued in
       let living = mid.living in
-      midway_more c step told actions.Drain is first made unit unit queue next_queue store next_store mid done.0
+      let held = done.carries.held found (jobs_told (deeds_of made)) (deeds_in made) mid.held in
+      midway_more c step told actions.Drain is first found begun made unit unit queue next_queue store next_store mid done.after
       (record {
         stands = living.stands;
         held = living.held;
@@ -92,4 +161,12 @@ module _ {B : Type 0} {b : Ghosts B} (c : Config) (step : Step) where
         running = running living.held living.spare living.running;
         kept = kept_other c first (journal_of made) (deeds_of made) living.held living.spare living.kept told tt;
       })
-      done.2 done.1
+      done.stands done.drains follows
+      (subst (λ n. IsCaused c begun.device.faults (answers.Drained written n ∷ deeds_of made) next_store) (omega arith)
+      (done.carries.caused begun.device.faults (deeds_of made) 0 written 0 (caused_first c store begun.device.faults (deeds_of made) mid.caused)))
+      (record {
+        done = held.done;
+        held = held.held;
+        got = (subst (λ (does : Action). GetsBy found done.after (deeds_in made) does told) (sym is) tt, held.got);
+        told = omega arith;
+      })

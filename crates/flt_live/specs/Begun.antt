@@ -1,9 +1,11 @@
 -- How a life of a session begins, in the words of a life of `run`.
-use Rattle.std.specs.Prelude.{[], IsFalse}
+use Rattle.std.specs.Prelude.{◌≡◌, [], None, IsFalse}
 use Rattle.flt_config.specs.declared.config.Config.{Config}
 use Rattle.flt_config.specs.Durable.{Fits}
 use Rattle.flt_flash.specs.Blocks.{BlocksState}
+use Rattle.flt_flash.specs.State.{HasRisenBy}
 use Rattle.flt_flash.specs.declared.blocks.Blocks.{Ghosts}
+use Rattle.flt_store_model.specs.Holding.{SameApplications}
 use Rattle.flt_store.specs.declared.store.Store.{Store}
 use Rattle.flt_store.specs.Store.{IsRunning, driver_of, numbered}
 use Rattle.flt_life_model.specs.Chain.{Finds, IsLifeBetween, LifeView}
@@ -26,3 +28,13 @@ IsBegunBy c before (Started number state) store = Finds c (moment_of before) (dr
     × IsFalse before.is_spent × Fits c state × IsRunning c (numbered number state) (numbered number state) store
 IsBegunBy c before Dark store = HasBegun c before Dark store
 IsBegunBy c before (Refused fault) store = HasBegun c before (Refused fault) store
+
+-- It began so, on the blocks that were there: no number, no room and no application block changed, a sound image stays without a fault, and
+-- the count of faults did not fall.
+pub record Begins {B : Type 0} {b : Ghosts B} (c : Config) (before : BlocksState) (boot : Boot) (store : Store B b) : Type 0 where
+  pub is : IsBegunBy c before boot store
+  pub numbers : (driver_of store).numbers ≡ before.numbers
+  pub room : (driver_of store).room ≡ before.room
+  pub applications : SameApplications before.value (driver_of store).value
+  pub no_new_damage : before.damage ≡ None → (driver_of store).damage ≡ None
+  pub counts : HasRisenBy 0 before.device.faults (driver_of store).device.faults

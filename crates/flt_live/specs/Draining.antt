@@ -1,12 +1,21 @@
 -- The jobs of a drain, where nobody else calls the queue; all lists begin with the newest.
-use Rattle.std.specs.Prelude.{◌≡◌, ◌⊎◌, ◌<◌, ℕ, Bool, not, List, [], ◌∷◌, length, sum_by, Option, Some, None}
+use Rattle.std.specs.Prelude.{◌≡◌, ◌⊎◌, ◌<◌, ◌+◌, ℕ, Bool, not, List, [], ◌∷◌, length, sum_by, Option, Some, None}
+use Rattle.flt_config.specs.declared.config.Config.{Config}
+use Rattle.flt_flash.specs.Content.{Content}
+use Rattle.flt_flash.specs.declared.blocks.Blocks.{Ghosts}
 use Rattle.flt_queue.specs.declared.job.Job.{Job}
 use Rattle.flt_queue.specs.declared.job.QueueOp.TheVariants.{Take, Done}
 use Rattle.flt_queue.specs.declared.queue.JobQueue.{JobQueue}
 use Rattle.flt_queue.specs.Queue.{History}
 use Rattle.flt_queue.specs.Stands.{Stands}
 use Rattle.flt_turn.specs.Sums.{one_if}
-use Rattle.flt_life_model.specs.Applications.{job_behind}
+use Rattle.flt_store.specs.declared.store.Store.{Store}
+use Rattle.flt_store.specs.Store.{driver_of}
+use Rattle.flt_life_model.specs.Answers.{Told}
+use Rattle.flt_life_model.specs.Applications.{AreHeld, job_behind}
+use Rattle.flt_life_model.specs.Ordered.{Deed}
+use Rattle.flt_life_model.specs.SoFar.{IsCaused}
+use Rattle.flt_life_model.specs.declared.answer.StepAnswer.TheVariants as answers
 
 -- A job that was taken, and whether it was written.
 abbrev pub Drained : Type 0
@@ -42,16 +51,36 @@ pub record Drains (before : History) (written failed : ℕ) (after : History) : 
   pub failed_is : failed ≡ failed_in jobs
   pub ended : IsDrained before jobs after
 
--- The next job was taken, and it was noted whether it was written; or none waits.
-abbrev pub IsJobTaken : ℕ → History → Option Bool → JobQueue → Type 0
-IsJobTaken blocks before None queue = (job_behind before ≡ None) × Stands blocks (Take ∷ before) queue
-IsJobTaken blocks before (Some written) queue = (job : Job) × (job_behind before ≡ Some job) × Stands blocks (Done job.block written ∷ Take ∷ before) queue
+module _ {B : Type 0} {b : Ghosts B} where
+  -- What so many jobs, of which some could not be written, carry on of the store, between these calls of the queue.
+  pub record CarriesJobs (c : Config) (before after : History) (count failed : ℕ) (store now : Store B b) : Type 0 where
+    pub held : (first : ℕ → Content) (jobs : ℕ) (deeds : List Deed) → AreHeld first before jobs deeds (driver_of store).value
+        → AreHeld first after (jobs + count) deeds (driver_of now).value
+    pub caused : (begun : ℕ) (told : List Told) (some more less : ℕ) → IsCaused c begun (answers.Drained some less ∷ told) store
+        → IsCaused c begun (answers.Drained more (less + failed) ∷ told) now
 
--- A drain took so many jobs so far.
-pub record IsDraining (blocks : ℕ) (before : History) (count written failed : ℕ) (queue : JobQueue) : Type 0 where
-  pub jobs : List Drained
-  pub count_is : length jobs ≡ count
-  pub taken : AreTaken before jobs
-  pub written_is : written ≡ written_in jobs
-  pub failed_is : failed ≡ failed_in jobs
-  pub stands : Stands blocks (behind_jobs before jobs) queue
+  -- The next job was taken, and it was noted whether it was written; or none waits.
+  abbrev pub IsJobTaken : Config → History → Option Bool → JobQueue → (store now : Store B b) → Type 0
+  IsJobTaken c before None queue store now = (job_behind before ≡ None) × Stands c.blocks (Take ∷ before) queue
+      × CarriesJobs c before (Take ∷ before) 0 0 store now
+  IsJobTaken c before (Some written) queue store now = (job : Job) × (job_behind before ≡ Some job)
+      × Stands c.blocks (Done job.block written ∷ Take ∷ before) queue
+      × CarriesJobs c before (Done job.block written ∷ Take ∷ before) 1 (one_if (not written)) store now
+
+  -- A drain took so many jobs so far.
+  pub record IsDraining (c : Config) (before : History) (count written failed : ℕ) (queue : JobQueue) (store now : Store B b) : Type 0 where
+    pub jobs : List Drained
+    pub count_is : length jobs ≡ count
+    pub taken : AreTaken before jobs
+    pub written_is : written ≡ written_in jobs
+    pub failed_is : failed ≡ failed_in jobs
+    pub all : written + failed ≡ count
+    pub stands : Stands c.blocks (behind_jobs before jobs) queue
+    pub carries : CarriesJobs c before (behind_jobs before jobs) count failed store now
+
+  -- A drain took the queue from these calls to others, and carried on the store.
+  pub record HasDrained (c : Config) (before : History) (written failed : ℕ) (queue : JobQueue) (store now : Store B b) : Type 0 where
+    pub after : History
+    pub drains : Drains before written failed after
+    pub stands : Stands c.blocks after queue
+    pub carries : CarriesJobs c before after (written + failed) failed store now

@@ -1,48 +1,59 @@
 -- Worked sessions, whose definitions are computed.
-use Rattle.std.specs.Prelude.{◌≡◌, ◌^◌, ◌-◌, ℕ, List, [], ◌∷◌, ◌++◌, length, codes, true, false, Some, None}
+use Rattle.std.specs.Prelude.{◌≡◌, ℕ, Bool, List, [], ◌∷◌, length, codes, true, false, Some, None}
 use Rattle.flt_config.specs.declared.config.Config.{Config}
 use Rattle.flt_config.specs.declared.persist.Persist.{Persist}
 use Rattle.flt_file.specs.declared.opening.OpenFault.TheVariants as shelves
 use Rattle.flt_restore.specs.declared.fault.StartFault.TheVariants as faults
 use Rattle.flt_step.specs.declared.step.Step.TheVariants as steps
-use Rattle.flt_life_model.specs.declared.answer.StepAnswer.TheVariants as answers
+use Rattle.flt_life_model.specs.Answers.{Told}
 use Rattle.flt_life_model.specs.declared.life.Boot.TheVariants as boots
 use Rattle.flt_live.specs.declared.living.LifeEnd.TheVariants.{Power}
 use Rattle.flt_live.specs.declared.reader.Line.TheVariants.{Fed, Cut, Ended}
-use Rattle.flt_live.specs.Ahead.{ahead_with}
+use Rattle.flt_live.specs.declared.line.Due.TheVariants as due
+use Rattle.flt_live.specs.Ahead.{ahead_with, text_of}
+use Rattle.flt_live.specs.Due.{due_at}
 use Rattle.flt_live.specs.Heard.{AreHeard, Heard, Talk, answers_of, bytes_of}
 use Rattle.flt_live.specs.Made.{Made}
-use Rattle.flt_live.specs.Session.{Closed, Other, Refused, SessionEnd, Unread, Unreadable, is_call, status_due}
+use Rattle.flt_live.specs.Session.{Closed, Other, Refused, SessionEnd, Unread, Unreadable, session_in, status_due}
 use Rattle.flt_live.specs.Session as sessions
 use Rattle.flt_live.specs.Span.{ArePassed, LifeSpan, next_number}
 
-abbrev heard : List ℕ → List ℕ → Heard
-heard whole answer = record { whole = whole; ended = Fed; answer = answer }
+-- A line that a line feed ends, and one that the end of the source cuts off.
+abbrev pub fed : List ℕ → List ℕ → Heard
+fed whole answer = record { whole = whole; ended = Fed; answer = answer }
 
--- An empty line, and behind it a comment that no line feed ends, which is the newest.
+abbrev pub cut : List ℕ → List ℕ → Heard
+cut whole answer = record { whole = whole; ended = Cut; answer = answer }
+
+-- An empty line, and behind it a comment that no line feed ends, which is the newest. Neither says anything.
 abbrev pub two_lines : List Heard
-two_lines = (record { whole = codes "#x"; ended = Cut; answer = 10 ∷ [] }) ∷ heard [] (10 ∷ []) ∷ []
+two_lines = cut (35 ∷ 120 ∷ []) (10 ∷ []) ∷ fed [] (10 ∷ []) ∷ []
+
+pub record SayNothing (c : Config) : Type 0 where
+  pub empty : due_at c (text_of Fed []) ≡ due.Nothing
+  pub comment : due_at c (35 ∷ 120 ∷ []) ≡ due.Nothing
 
 -- They make no step; each is answered by an empty line. A line that is not answered, one that is answered twice, and the end of the source
 -- are no lines that were heard so.
 pub record LinesAreHeard (c : Config) : Type 0 where
   pub two : AreHeard c two_lines []
-  pub taken : bytes_of two_lines ≡ 10 ∷ codes "#x"
+  pub taken : bytes_of two_lines ≡ 10 ∷ 35 ∷ 120 ∷ []
   pub written : answers_of two_lines ≡ 10 ∷ 10 ∷ []
-  pub silent : (made : List Made) → ¬ AreHeard c (heard [] [] ∷ []) made
-  pub twice : (made : List Made) → ¬ AreHeard c (heard [] (10 ∷ 10 ∷ []) ∷ []) made
-  pub at_end : (made : List Made) → ¬ AreHeard c ((record { whole = []; ended = Ended; answer = 10 ∷ [] }) ∷ []) made
-  pub none_made : ¬ AreHeard c two_lines ((steps.Save, answers.Dark) ∷ [])
+  pub silent : (made : List Made) → ¬ AreHeard c (fed [] [] ∷ []) made
+  pub twice : (made : List Made) → ¬ AreHeard c (fed [] (10 ∷ 10 ∷ []) ∷ []) made
+  pub at_end : (made : List Made) → ¬ AreHeard c (record { whole = []; ended = Ended; answer = 10 ∷ [] } ∷ []) made
+  pub none_made : (told : Told) → ¬ AreHeard c two_lines ((steps.Save, told) ∷ [])
 
 -- Lives are counted from 1 on, and the count stays at its end. Of two lives the second begins where the first ended.
-pub record LivesFollow (c : Config) (start : Talk) : Type 0 where
+pub record LivesFollow (tells : Bool) (c : Config) (start : Talk) : Type 0 where
   pub first : next_number [] ≡ 1
   pub second : (life : LifeSpan) → next_number (life ∷ []) ≡ 2
   pub last : (lives : List LifeSpan) → length lives ≡ 4294967295 → next_number lives ≡ 4294967295
   pub before_last : (lives : List LifeSpan) → length lives ≡ 4294967293 → next_number lives ≡ 4294967294
-  pub joined : (one two : LifeSpan) (to : Talk) → ArePassed c start (two ∷ one ∷ []) to → (one.from ≡ start) × (two.from ≡ one.after) × (to ≡ two.after)
-  pub numbered : (one two : LifeSpan) (to : Talk) → ArePassed c start (two ∷ one ∷ []) to → (one.number ≡ 1) × (two.number ≡ 2)
-  pub powered : (one two : LifeSpan) (to : Talk) → ArePassed c start (two ∷ one ∷ []) to → (one.end ≡ Power) × (two.end ≡ Power)
+  pub joined : (one two : LifeSpan) (to : Talk) → ArePassed tells c start (two ∷ one ∷ []) to → (one.from ≡ start) × (two.from ≡ one.after) × (to ≡ two.after)
+  pub numbered : (one two : LifeSpan) (to : Talk) → ArePassed tells c start (two ∷ one ∷ []) to → (one.number ≡ 1) × (two.number ≡ 2)
+  pub powered : (one two : LifeSpan) (to : Talk) → ArePassed tells c start (two ∷ one ∷ []) to → (one.end ≡ Power) × (two.end ≡ Power)
+  pub found : (one two : LifeSpan) (to : Talk) → ArePassed true c start (two ∷ one ∷ []) to → two.before.value ≡ one.last.value
 
 -- The status of each end.
 pub record EndsAreTold : Type 0 where
@@ -60,13 +71,13 @@ pub record EndsAreTold : Type 0 where
 
 -- The words that ask for a session, behind the program's name.
 pub record WordsAsk : Type 0 where
-  pub none : is_call [] ≡ false
-  pub word : is_call (codes "live" ∷ []) ≡ false
-  pub config : is_call (codes "live" ∷ codes "a" ∷ []) ≡ true
-  pub image : is_call (codes "live" ∷ codes "a" ∷ codes "b" ∷ []) ≡ true
-  pub more : is_call (codes "live" ∷ codes "a" ∷ codes "b" ∷ codes "c" ∷ []) ≡ false
-  pub other : is_call (codes "lives" ∷ codes "a" ∷ []) ≡ false
-  pub prefix : is_call (codes "liv" ∷ codes "a" ∷ codes "b" ∷ []) ≡ false
+  pub none : session_in [] ≡ None
+  pub word : session_in (codes "live" ∷ []) ≡ None
+  pub config : session_in (codes "live" ∷ codes "a" ∷ []) ≡ Some true
+  pub image : session_in (codes "live" ∷ codes "a" ∷ codes "b" ∷ []) ≡ Some false
+  pub more : session_in (codes "live" ∷ codes "a" ∷ codes "b" ∷ codes "c" ∷ []) ≡ None
+  pub other : session_in (codes "lives" ∷ codes "a" ∷ []) ≡ None
+  pub prefix : session_in (codes "liv" ∷ codes "a" ∷ codes "b" ∷ []) ≡ None
 
 -- What was pulled comes before what is left.
 pub record PulledComesFirst : Type 0 where

@@ -7,5 +7,7 @@ pub mod Begun
 pub mod Heard
 pub mod Lived
 pub mod Session
+pub mod Shelf
 pub mod Span
 pub mod Examples
+pub mod Laws

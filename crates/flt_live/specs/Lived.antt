@@ -4,13 +4,14 @@ use Rattle.std.specs.Io.KnownBytes.{Appends, Consumes, IsAtEnd}
 use Rattle.flt_config.specs.declared.config.Config.{Config}
 use Rattle.flt_dcm.specs.Unit.{UnitView}
 use Rattle.flt_flash.specs.Blocks.{BlocksState}
+use Rattle.flt_flash.specs.Content.{Content}
 use Rattle.flt_flash.specs.declared.blocks.Blocks.{Ghosts}
 use Rattle.flt_io.specs.Fault.{Rose}
 use Rattle.flt_io.specs.declared.stream.StreamFault.{StreamFault}
 use Rattle.flt_io.specs.declared.stream.StreamFault.TheVariants as streams
 use Rattle.flt_queue.specs.declared.queue.JobQueue.{JobQueue}
 use Rattle.flt_store.specs.declared.store.Store.{Store}
-use Rattle.flt_store.specs.Store.{numbered}
+use Rattle.flt_store.specs.Store.{driver_of, numbered}
 use Rattle.flt_store_model.specs.Holding.{Generation}
 use Rattle.flt_life_model.specs.declared.answer.StepAnswer.TheVariants as answers
 use Rattle.flt_life_model.specs.declared.life.Boot.{Boot}
@@ -20,7 +21,7 @@ use Rattle.flt_report.specs.Boot.{boot_line}
 use Rattle.flt_live.specs.declared.line.Due.TheVariants as due
 use Rattle.flt_live.specs.declared.living.LifeEnd.{LifeEnd}
 use Rattle.flt_live.specs.declared.living.LifeEnd.TheVariants.{Power, Ended, Unread, Unwritten, Memory}
-use Rattle.flt_live.specs.Begun.{IsBegunBy}
+use Rattle.flt_live.specs.Begun.{Begins}
 use Rattle.flt_live.specs.Due.{due_at}
 use Rattle.flt_live.specs.Heard.{AreHeard, Heard, IsLater, IsOneLine, Says, Talk, answers_of, bytes_of, text_in}
 use Rattle.flt_live.specs.Made.{IsMidway, Made}
@@ -67,21 +68,24 @@ pub record TakesDarkLines (c : Config) (before after : Talk) (end : LifeEnd) : T
   pub ended : EndsBy c heard before after end
 
 module _ {B : Type 0} {b : Ghosts B} where
-  -- A life that began with this generation took these lines: the machine, the queue and the store stand for the steps that they made.
-  pub record TakesLines (c : Config) (first : Generation) (before after : Talk) (unit : UnitView) (store : Store B b) (end : LifeEnd) : Type 0 where
+  -- A life that began with this generation, and found this in the blocks, took these lines: the machine, the queue and the store stand for
+  -- the steps that they made.
+  pub record TakesLines (c : Config) (first : Generation) (found : ℕ → Content) (begun : BlocksState) (before after : Talk) (unit : UnitView) (store : Store B b) (end : LifeEnd) : Type 0 where
     pub heard : List Heard
     pub made : List Made
     pub queue : JobQueue
     pub are : AreHeard c heard made
-    pub midway : IsMidway c first made unit queue store
+    pub midway : IsMidway c first found begun made unit queue store
     pub written : Appends before.held after.held (answers_of heard)
     pub ended : EndsBy c heard before after end
 
   -- What follows the line that begins a life, by how it began. A refused life reads nothing, and leaves the store as a dark one does.
-  abbrev pub GoesOnBy : Config → Boot → (begun last : Store B b) → UnitView → (before after : Talk) → LifeEnd → Type 0
-  GoesOnBy c (boots.Started number state) begun last unit before after end = TakesLines c (numbered number state) before after unit last end
-  GoesOnBy c boots.Dark begun last unit before after end = (last ≡ begun) × TakesDarkLines c before after end
-  GoesOnBy c (boots.Refused fault) begun last unit before after end = (last ≡ begun) × (after.ahead ≡ before.ahead) × (after.held ≡ before.held) × (end ≡ Ended)
+  abbrev pub GoesOnBy : Config → Boot → (found : ℕ → Content) → (begun last : Store B b) → UnitView → (before after : Talk) → LifeEnd → Type 0
+  GoesOnBy c (boots.Started number state) found begun last unit before after end =
+      TakesLines c (numbered number state) found (driver_of begun) before after unit last end
+  GoesOnBy c boots.Dark found begun last unit before after end = (last ≡ begun) × TakesDarkLines c before after end
+  GoesOnBy c (boots.Refused fault) found begun last unit before after end =
+      (last ≡ begun) × (after.ahead ≡ before.ahead) × (after.held ≡ before.held) × (end ≡ Ended)
 
   -- A life of this number, from its power-up on. Its status is that of how it began. The line that says so was written first, and then one
   -- line for each that was read; unless the sink failed, or memory ran out.
@@ -89,7 +93,7 @@ module _ {B : Type 0} {b : Ghosts B} where
     pub boot : Boot
     pub status_is : status ≡ status_by boot
     pub begun : Store B b
-    pub is : IsBegunBy c before boot begun
-    pub said : UnlessLost end ((between : Talk) × Says (boot_line number boot) from between × GoesOnBy c boot begun last unit between after end)
+    pub is : Begins c before boot begun
+    pub said : UnlessLost end ((between : Talk) × Says (boot_line number boot) from between × GoesOnBy c boot before.value begun last unit between after end)
     pub lost : IsLostFor from.write_faults after.write_faults end
     pub later : IsLater from after

@@ -1,10 +1,13 @@
 -- The steps of a life that were made one by one, each with its answer; all lists begin with the newest.
-use Rattle.std.specs.Prelude.{◌≡◌, List, [], ◌∷◌}
+use Rattle.std.specs.Prelude.{◌≡◌, ℕ, List, [], ◌∷◌}
 use Rattle.flt_config.specs.declared.config.Config.{Config}
 use Rattle.flt_model.specs.Start.{Start}
 use Rattle.flt_model.specs.Answer.{answer}
 use Rattle.flt_model.specs.declared.call.Op.{Op}
 use Rattle.flt_model.specs.declared.call.Op.TheVariants as ops
+use Rattle.flt_flash.specs.Blocks.{BlocksState}
+use Rattle.flt_flash.specs.Calls.{Follows}
+use Rattle.flt_flash.specs.Content.{Content, missing, bytes as holding}
 use Rattle.flt_flash.specs.declared.blocks.Blocks.{Ghosts}
 use Rattle.flt_store_model.specs.Holding.{Generation}
 use Rattle.flt_dcm.specs.Unit.{UnitView}
@@ -14,15 +17,19 @@ use Rattle.flt_queue.specs.Queue.{History, answer_q}
 use Rattle.flt_queue.specs.Stands as standing
 use Rattle.flt_step.specs.declared.step.Step.{Step}
 use Rattle.flt_store.specs.declared.store.Store.{Store}
+use Rattle.flt_store.specs.Store.{driver_of}
 use Rattle.flt_life_model.specs.Actions.{action_of}
 use Rattle.flt_life_model.specs.Answers.{Told}
+use Rattle.flt_life_model.specs.Applications.{AreHeld, answers_of, jobs_told}
 use Rattle.flt_life_model.specs.Chain.{start_from}
 use Rattle.flt_life_model.specs.Journal.{Journal, entry, calls_of}
+use Rattle.flt_life_model.specs.Ordered.{Deed}
 use Rattle.flt_life_model.specs.Played.{IsGot}
+use Rattle.flt_life_model.specs.SoFar.{IsCaused}
 use Rattle.flt_life_model.specs.declared.action.Action.{Action}
 use Rattle.flt_life_model.specs.declared.action.Action.TheVariants as actions
 use Rattle.flt_life_model.specs.declared.answer.StepAnswer.TheVariants as answers
-use Rattle.flt_lives.specs.Living.{IsLiving, with_answer}
+use Rattle.flt_lives.specs.Living.{IsLiving}
 use Rattle.flt_live.specs.Draining.{Drains}
 
 abbrev pub Made : Type 0
@@ -49,10 +56,20 @@ abbrev pub journal_of : List Made → Journal
 journal_of [] = []
 journal_of (made ∷ earlier) = with_calls (action_of made.0) made.1 (journal_of earlier)
 
--- The answers of the steps so far that touch the store.
+-- The deeds of these steps: those that touch the store, each with its answer.
+abbrev pub with_deed_by : Action → Step → Told → List Deed → List Deed
+with_deed_by actions.Save step told earlier = (step, told) ∷ earlier
+with_deed_by actions.Drain step told earlier = (step, told) ∷ earlier
+with_deed_by (actions.Get block) step told earlier = (step, told) ∷ earlier
+with_deed_by _ step told earlier = earlier
+
+abbrev pub deeds_in : List Made → List Deed
+deeds_in [] = []
+deeds_in (made ∷ earlier) = with_deed_by (action_of made.0) made.0 made.1 (deeds_in earlier)
+
+-- Their answers.
 abbrev pub deeds_of : List Made → List Told
-deeds_of [] = []
-deeds_of (made ∷ earlier) = with_answer (action_of made.0) made.1 (deeds_of earlier)
+deeds_of made = answers_of (deeds_in made)
 
 -- The answer is the machine's to a call behind these.
 abbrev pub IsReply : Start → Journal → Op → Told → Type 0
@@ -64,6 +81,13 @@ abbrev pub IsSave : Told → Type 0
 IsSave (answers.Saved number) = Unit {0}
 IsSave (answers.SaveFailed fault) = Unit {0}
 IsSave _ = ⊥
+
+-- A read is answered by what the block holds, or the flash failed it.
+abbrev pub Finds : Content → Told → Type 0
+Finds content (answers.Bytes found) = content ≡ holding found.items
+Finds content answers.NoBlock = content ≡ missing
+Finds content answers.BlockFlash = Unit {0}
+Finds content _ = ⊥
 
 -- The answer is the queue's to a call behind these.
 abbrev pub IsQueueReply : History → QueueOp → Told → Type 0
@@ -91,15 +115,20 @@ AreAnswered start (made ∷ earlier) jobs =
     (before : History) × AreAnswered start earlier before × IsAnswered start (journal_of earlier) before (action_of made.0) made.1 jobs
 
 module _ {B : Type 0} {b : Ghosts B} where
-  -- A life that began with this generation has made these steps: its machine stands for their calls, and so does its queue; the store
-  -- holds the generation that was acknowledged last, or one of a later save.
-  pub record IsMidway (c : Config) (first : Generation) (made : List Made) (unit : UnitView) (queue : JobQueue) (store : Store B b) : Type 0 where
+  -- A life that began with this generation has made these steps: its machine stands for their calls, and so does its queue; the store holds
+  -- the generation that was acknowledged last, or one of a later save; each step that failed has its cause since the life began; each
+  -- application block holds what it did at the power-up, or what the drains may have left there, and each read was answered by the drains
+  -- before it.
+  pub record IsMidway (c : Config) (first : Generation) (found : ℕ → Content) (begun : BlocksState) (made : List Made) (unit : UnitView) (queue : JobQueue) (store : Store B b) : Type 0 where
     pub jobs : History
     pub living : IsLiving c first (journal_of made) (deeds_of made) unit store
     pub queued : standing.Stands c.blocks jobs queue
     pub answered : AreAnswered (start_from c first.state) made jobs
+    pub follows : Follows begun (driver_of store)
+    pub caused : IsCaused c begun.device.faults (deeds_of made) store
+    pub held : AreHeld found jobs (jobs_told (deeds_of made)) (deeds_in made) (driver_of store).value
 
   -- One step more was made, with this answer.
   abbrev pub MakesStep : Config → Step → Told → (unit next_unit : UnitView) → (queue next_queue : JobQueue) → (store next_store : Store B b) → Type 0
-  MakesStep c step told unit next_unit queue next_queue store next_store = (first : Generation) (made : List Made)
-      → IsMidway c first made unit queue store → IsMidway c first ((step, told) ∷ made) next_unit next_queue next_store
+  MakesStep c step told unit next_unit queue next_queue store next_store = (first : Generation) (found : ℕ → Content) (begun : BlocksState) (made : List Made)
+      → IsMidway c first found begun made unit queue store → IsMidway c first found begun ((step, told) ∷ made) next_unit next_queue next_store

@@ -1,5 +1,5 @@
 -- How a session ends, with its cause: its lives, what is written, and which status says so.
-use Rattle.std.specs.Prelude.{◌≡◌, ◌≤◌, ◌⊎◌, ℕ, List, [], ◌∷◌, ◌++◌, Bool, true, false, codes, Option, Result, Ok, Err}
+use Rattle.std.specs.Prelude.{◌≡◌, ◌≤◌, ◌⊎◌, ℕ, List, [], ◌∷◌, ◌++◌, Bool, true, false, codes, Option, Some, None, Result, Ok, Err, if◌then◌else◌}
 use Rattle.std.specs.Str.{bytes_eq}
 use Rattle.std.specs.Io.KnownBytes.{Appends, IsAtEnd}
 use Rattle.flt_config.specs.declared.config.Config.{Config}
@@ -67,15 +67,15 @@ abbrev pub IsIdle : List (List (PartOf Step)) → Type 0
 IsIdle lives = lives ≡ [] ∷ []
 
 -- The source of the lines failed in the last of these lives.
-pub record IsUnread (c : Config) (before after : Talk) : Type 0 where
+pub record IsUnread (tells : Bool) (c : Config) (before after : Talk) : Type 0 where
   pub boot : Boot
-  pub lived : AreSpans c before after boot lives.Unread
+  pub lived : AreSpans tells c before after boot lives.Unread
   pub rose : Rose before.read_faults after.read_faults
 
 -- Lives were lived, and the flash of the next one was not given, of which bytes were written.
-pub record IsClosed (c : Config) (before after : Talk) : Type 0 where
+pub record IsClosed (tells : Bool) (c : Config) (before after : Talk) : Type 0 where
   pub between : Talk
-  pub lived : HavePassed c before between
+  pub lived : HavePassed tells c before between
   pub ahead : after.ahead ≡ between.ahead
   pub text : List ℕ
   pub written : Appends between.held after.held text
@@ -84,13 +84,13 @@ abbrev pub other_line : List ℕ
 other_line = codes "script other" ++ 10 ∷ []
 
 -- Why a session ends so whose configuration is this script, and what was written.
-abbrev pub IsEndOf : ScriptContent → (before after : Talk) → SessionEnd → Type 0
-IsEndOf script before after Unreadable = ⊥
-IsEndOf script before after (Refused fault) = ⊥
-IsEndOf script before after Other = ¬ IsIdle script.lives × Appends before.held after.held other_line
-IsEndOf script before after (Closed fault) = IsIdle script.lives × IsClosed script.config before after
-IsEndOf script before after Unread = IsIdle script.lives × IsUnread script.config before after
-IsEndOf script before after (Ended boot) = IsIdle script.lives × AreSpans script.config before after boot lives.Ended
+abbrev pub IsEndOf : Bool → ScriptContent → (before after : Talk) → SessionEnd → Type 0
+IsEndOf tells script before after Unreadable = ⊥
+IsEndOf tells script before after (Refused fault) = ⊥
+IsEndOf tells script before after Other = ¬ IsIdle script.lives × Appends before.held after.held other_line
+IsEndOf tells script before after (Closed fault) = IsIdle script.lives × IsClosed tells script.config before after
+IsEndOf tells script before after Unread = IsIdle script.lives × IsUnread tells script.config before after
+IsEndOf tells script before after (Ended boot) = IsIdle script.lives × AreSpans tells script.config before after boot lives.Ended
 
 -- Memory ran out, or the sink failed.
 abbrev pub IsCutOff : (before after : Talk) → ℕ → Type 0
@@ -110,25 +110,25 @@ abbrev pub IfScript : List DidUse → Reading → (ScriptContent → Type 0) →
 IfScript dids config fact = (script : ScriptContent) × IsAtEnd config.left_after × AreScript dids config.left script × fact script
 
 -- Why a session ends so, and what was written.
-abbrev pub HasCause : List DidUse → Reading → (before after : Talk) → SessionEnd → Type 0
-HasCause dids config before after Unreadable = Rose config.faults config.faults_after × Appends before.held after.held unread_line
-HasCause dids config before after (Refused fault) = HasLostRead config.left config.left_after × AreNoScript dids config.left fault
+abbrev pub HasCause : Bool → List DidUse → Reading → (before after : Talk) → SessionEnd → Type 0
+HasCause tells dids config before after Unreadable = Rose config.faults config.faults_after × Appends before.held after.held unread_line
+HasCause tells dids config before after (Refused fault) = HasLostRead config.left config.left_after × AreNoScript dids config.left fault
     × Appends before.held after.held (script_fault_line fault)
-HasCause dids config before after Other = IfScript dids config (λ script. IsEndOf script before after Other)
-HasCause dids config before after (Closed fault) = IfScript dids config (λ script. IsEndOf script before after (Closed fault))
-HasCause dids config before after Unread = IfScript dids config (λ script. IsEndOf script before after Unread)
-HasCause dids config before after (Ended boot) = IfScript dids config (λ script. IsEndOf script before after (Ended boot))
+HasCause tells dids config before after Other = IfScript dids config (λ script. IsEndOf tells script before after Other)
+HasCause tells dids config before after (Closed fault) = IfScript dids config (λ script. IsEndOf tells script before after (Closed fault))
+HasCause tells dids config before after Unread = IfScript dids config (λ script. IsEndOf tells script before after Unread)
+HasCause tells dids config before after (Ended boot) = IfScript dids config (λ script. IsEndOf tells script before after (Ended boot))
 
 -- A session by its configuration.
-abbrev pub IsSession : List DidUse → Reading → (before after : Talk) → ℕ → Type 0
-IsSession dids config before after status = EndsFor (HasCause dids config before after) before after status
+abbrev pub IsSession : Bool → List DidUse → Reading → (before after : Talk) → ℕ → Type 0
+IsSession tells dids config before after status = EndsFor (HasCause tells dids config before after) before after status
 
 -- Why lives ended for something else than the end of the source.
-abbrev pub HasFailed : Config → (before after : Talk) → End → Type 0
-HasFailed c before after ends.Unread = IsUnread c before after
-HasFailed c before after ends.Unwritten = Rose before.write_faults after.write_faults
-HasFailed c before after ends.Memory = Unit {0}
-HasFailed c before after (ends.Shelf fault) = HavePassed c before after × (before.write_faults ≤ after.write_faults)
+abbrev pub HasFailed : Bool → Config → (before after : Talk) → End → Type 0
+HasFailed tells c before after ends.Unread = IsUnread tells c before after
+HasFailed tells c before after ends.Unwritten = Rose before.write_faults after.write_faults
+HasFailed tells c before after ends.Memory = Unit {0}
+HasFailed tells c before after (ends.Shelf fault) = HavePassed tells c before after × (before.write_faults ≤ after.write_faults)
 
 -- The status where a line was written or not.
 abbrev pub status_told : {T : Type 0} → ℕ → Result T StreamFault → ℕ
@@ -136,13 +136,14 @@ status_told status (Ok told) = status
 status_told status (Err streams.Failed) = 4
 status_told status (Err streams.Memory) = 7
 
--- The words behind the program's name ask for a session: `live`, a configuration, and an image if there is one.
-abbrev pub is_call : List (List ℕ) → Bool
-is_call [] = false
-is_call (word ∷ []) = false
-is_call (word ∷ config ∷ []) = bytes_eq word (codes "live")
-is_call (word ∷ config ∷ image ∷ []) = bytes_eq word (codes "live")
-is_call (word ∷ config ∷ image ∷ next ∷ more) = false
+-- Whether the words behind the program's name ask for a session: `live`, a configuration, and an image if there is one. Without an image
+-- the flash is in memory, which tells what it keeps.
+abbrev pub session_in : List (List ℕ) → Option Bool
+session_in [] = None
+session_in (word ∷ []) = None
+session_in (word ∷ config ∷ []) = if bytes_eq word (codes "live") then Some true else None
+session_in (word ∷ config ∷ image ∷ []) = if bytes_eq word (codes "live") then Some false else None
+session_in (word ∷ config ∷ image ∷ next ∷ more) = None
 
 abbrev pub usage_line : List ℕ
 usage_line = codes "usage: faultmem live CONFIG [IMAGE]" ++ 10 ∷ []
@@ -153,7 +154,7 @@ IsLine line due before after status = ((status ≡ due) × Appends before.held a
 
 -- How the program ends, by whether its words ask for a session: the file of the configuration could not be opened; or it was opened, and
 -- a session was held with what it gave.
-abbrev pub IsProgram : List DidUse → Bool → (before after : Talk) → ℕ → Type 0
-IsProgram dids false before after status = IsLine usage_line 1 before after status
-IsProgram dids true before after status =
-    (IsLine unread_line 3 before after status ⊎ (status ≡ 7)) ⊎ ((config : Reading) × IsSession dids config before after status)
+abbrev pub IsProgram : List DidUse → Option Bool → (before after : Talk) → ℕ → Type 0
+IsProgram dids None before after status = IsLine usage_line 1 before after status
+IsProgram dids (Some tells) before after status =
+    (IsLine unread_line 3 before after status ⊎ (status ≡ 7)) ⊎ ((config : Reading) × IsSession tells dids config before after status)

@@ -10,6 +10,7 @@
 
 mod ear;
 mod line;
+pub mod laws;
 mod living;
 mod making;
 mod program;

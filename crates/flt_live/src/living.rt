@@ -1,9 +1,10 @@
 //! A life of a session: from its power-up to a `power`, or to the end of the source.
-ghost use Rattle.std.specs.Prelude.{◌≡◌, ◌≢◌, ◌<◌, ◌≤◌, [], IfOk};
+ghost use Rattle.std.specs.Prelude.{◌≡◌, ◌≢◌, ◌<◌, ◌≤◌, ℕ, [], IfOk};
+ghost use Rattle.flt_flash.specs.Content.{Content};
 ghost use Rattle.flt_io.specs.Status.{number_of};
 ghost use Rattle.flt_io.specs.Written.{Writes};
 ghost use Rattle.flt_dcm.specs.Whole.{config_of, state_of};
-ghost use Rattle.flt_store_model.specs.Holding.{Generation};
+ghost use Rattle.flt_store_model.specs.Holding.{Generation, SameApplications};
 ghost use Rattle.flt_restore.specs.declared.fault.StartFault.TheVariants.{Flash};
 ghost use Rattle.flt_store.specs.Cause.{HasRoom};
 ghost use Rattle.flt_store.specs.Store.{driver_of, IsAlive};
@@ -11,7 +12,7 @@ ghost use Rattle.flt_life_model.specs.declared.life.Boot.TheVariants.{Refused};
 ghost use Rattle.flt_lives.specs.Living.{IsLiving, IsUnderWay};
 ghost use Rattle.flt_report.specs.Boot.{boot_line};
 ghost use Rattle.flt_live.specs.Answered.{IsReady};
-ghost use Rattle.flt_live.specs.Begun.{IsBegunBy};
+ghost use Rattle.flt_live.specs.Begun.{Begins};
 ghost use Rattle.flt_live.specs.Ahead.{ahead_in};
 ghost use Rattle.flt_live.specs.Heard.{talk};
 ghost use Rattle.flt_live.specs.Lived.{IsLifeLived, IsLostFor, TakesDarkLines, TakesLines, UnlessLost, lost_by};
@@ -104,8 +105,9 @@ fn take_lines<R: Wait, D: Blocks + Drop, S: Source, K: Sink>(
     requires ready { IsReady room.old }
     ensures same { config_of unit.new ≡ config.now }
     ensures ready { IsReady room.new }
-    ensures taken { (first : Generation) → IsLiving config.now first [] [] (state_of unit.old) store.old
-        → UnlessLost result (TakesLines config.now first (talk (ahead_in (S.left source.old) ear.old) (S.faults source.old) (K.held sink.old) (K.faults sink.old))
+    ensures taken { (first : Generation) (found : ℕ → Content) → IsLiving config.now first [] [] (state_of unit.old) store.old
+        → SameApplications found (driver_of store.old).value
+        → UnlessLost result (TakesLines config.now first found (driver_of store.old) (talk (ahead_in (S.left source.old) ear.old) (S.faults source.old) (K.held sink.old) (K.faults sink.old))
         (talk (ahead_in (S.left source.new) ear.new) (S.faults source.new) (K.held sink.new) (K.faults sink.new)) (state_of unit.new) store.new result) }
     ensures cause { IsLostFor (K.faults sink.old) (K.faults sink.new) result }
     ensures read_faults { S.faults source.old ≤ S.faults source.new }
@@ -196,7 +198,7 @@ fn begin<D: Blocks + Drop>(
 ) -> Boot
     requires room { HasRoom config.now (driver_of store.old).room }
     requires boots { 0 < (driver_of store.old).device.bench.boots_left }
-    ensures { IsBegunBy config.now (driver_of store.old) result store.new }
+    ensures { Begins config.now (driver_of store.old) result store.new }
 {
     store.power_up();
     match store.start_up(config, &mut buffers.state) {

@@ -10,15 +10,19 @@ ghost use Rattle.flt_queue.specs.Queue.{History, IsJob};
 ghost use Rattle.flt_queue.specs.declared.job.QueueOp.TheVariants as queue_ops;
 ghost use Rattle.flt_queue.specs.Stands as queued;
 ghost use Rattle.flt_step.specs.declared.step.Step.{Step};
-ghost use Rattle.flt_store_model.specs.Holding.{Generation};
-ghost use Rattle.flt_store.specs.Store.{IsAlive, IsRunning};
+ghost use Rattle.flt_flash.specs.Calls.{Follows, SameValues};
+ghost use Rattle.flt_store_model.specs.Holding.{Generation, SameApplications};
+ghost use Rattle.flt_store_model.specs.Layout.{application_number};
+ghost use Rattle.flt_store.specs.Store.{IsAlive, IsRunning, driver_of};
 ghost use Rattle.flt_life_model.specs.Actions.{IsPossible, action_of};
 ghost use Rattle.flt_life_model.specs.Answers.{Told, told_with};
+ghost use Rattle.flt_life_model.specs.Draining.{WritesJob};
 ghost use Rattle.flt_life_model.specs.Journal.{Journal};
 ghost use Rattle.flt_life_model.specs.Played.{IsGot};
+ghost use Rattle.flt_life_model.specs.SoFar.{IsCaused};
 ghost use Rattle.flt_lives.specs.Living.{IsLiving, IsUnderWay};
-ghost use Rattle.flt_live.specs.Draining.{Drains, IsJobTaken};
-ghost use Rattle.flt_live.specs.Made.{IsNoArm, IsSave, MakesStep, with_save};
+ghost use Rattle.flt_live.specs.Draining.{HasDrained, IsJobTaken};
+ghost use Rattle.flt_live.specs.Made.{Finds, IsNoArm, IsSave, MakesStep, with_save};
 
 use arrayvec::ArrayVec;
 use flt_config::ValidConfig;
@@ -59,6 +63,10 @@ fn save<D: Blocks + Drop>(
         → IsLiving config.now first journal told (state_of unit.old) store.old
         → IsLiving config.now first (with_save (told_with response result) journal) (told_with response result ∷ told) (state_of unit.new) store.new }
     ensures is { (response : List ℕ) → IsSave (told_with response result) }
+    ensures caused { (begun : ℕ) (told : List Told) (response : List ℕ) → IsCaused config.now begun told store.old
+        → IsCaused config.now begun (told_with response result ∷ told) store.new }
+    ensures applications { SameApplications (driver_of store.old).value (driver_of store.new).value }
+    ensures follows { Follows (driver_of store.old) (driver_of store.new) }
 {
     take_snapshot(unit, buffers);
     match store.save(config, &buffers.state) {
@@ -87,6 +95,11 @@ fn get<D: Blocks + Drop>(
         → IsLiving config.now first journal told unit store.old
         → IsLiving config.now first journal (told_with response result ∷ told) unit store.new }
     ensures is { (response : List ℕ) → IsGot (told_with response result) }
+    ensures caused { (begun : ℕ) (told : List Told) (response : List ℕ) → IsCaused config.now begun told store.old
+        → IsCaused config.now begun (told_with response result ∷ told) store.new }
+    ensures values { SameValues (driver_of store.old) (driver_of store.new) }
+    ensures found { (response : List ℕ) → Finds ((driver_of store.old).value (application_number block)) (told_with response result) }
+    ensures follows { Follows (driver_of store.old) (driver_of store.new) }
 {
     let mut bytes = ArrayVec::new();
     match store.get_block(block, &mut bytes) {
@@ -107,7 +120,7 @@ fn write_job<D: Blocks + Drop>(
     requires alive { IsAlive config.now store.old }
     requires job { IsJob config.now.blocks job.now }
     ensures blocks { queue.new.blocks ≡ queue.old.blocks }
-    ensures running { (held spare : Generation) → IsRunning config.now held spare store.old → IsRunning config.now held spare store.new }
+    ensures wrote { WritesJob config.now job.now result store.old store.new }
     ensures noted { (jobs : History) → queued.Stands config.now.blocks jobs queue.old
         → queued.Stands config.now.blocks (queue_ops.Done job.now.block result ∷ jobs) queue.new }
 {
@@ -129,7 +142,9 @@ fn take_job<D: Blocks + Drop>(
     requires alive { IsAlive config.now store.old }
     ensures blocks { queue.new.blocks ≡ queue.old.blocks }
     ensures running { (held spare : Generation) → IsRunning config.now held spare store.old → IsRunning config.now held spare store.new }
-    ensures taken { (jobs : History) → queued.Stands config.now.blocks jobs queue.old → IsJobTaken config.now.blocks jobs result queue.new }
+    ensures follows { Follows (driver_of store.old) (driver_of store.new) }
+    ensures taken { (jobs : History) → queued.Stands config.now.blocks jobs queue.old
+        → IsJobTaken config.now jobs result queue.new store.old store.new }
 {
     match queue.apply(&QueueOp::Take) {
         QueueReply::Job(job) => Some(write_job(queue, store, config, &job)),
@@ -147,8 +162,9 @@ fn drain<D: Blocks + Drop>(
     requires alive { IsAlive config.now store.old }
     ensures blocks { queue.new.blocks ≡ queue.old.blocks }
     ensures running { (held spare : Generation) → IsRunning config.now held spare store.old → IsRunning config.now held spare store.new }
+    ensures follows { Follows (driver_of store.old) (driver_of store.new) }
     ensures drained { (jobs : History) → queued.Stands config.now.blocks jobs queue.old
-        → (after : History) × Drains jobs result.0 result.1 after × queued.Stands config.now.blocks after queue.new }
+        → HasDrained config.now jobs result.0 result.1 queue.new store.old store.new }
 {
     let mut written: u16 = 0;
     let mut failed: u16 = 0;

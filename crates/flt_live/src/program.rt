@@ -1,10 +1,10 @@
 //! What the words of the program ask for.
-ghost use Rattle.std.specs.Prelude.{◌≡◌, is_some, map};
+ghost use Rattle.std.specs.Prelude.{◌≡◌, is_none, map, option_map};
 ghost use Rattle.std.specs.String.{string_bytes};
 ghost use Rattle.flt_did.specs.Table.{dids_of};
 ghost use Rattle.flt_io.specs.Status.{number_of};
 ghost use Rattle.flt_live.specs.Heard.{talk};
-ghost use Rattle.flt_live.specs.Session.{IsProgram, IsSession, Reading, is_call, status_told};
+ghost use Rattle.flt_live.specs.Session.{IsProgram, IsSession, Reading, session_in, status_told};
 
 use crate::session::run_session;
 use crate::shelf::{FileShelf, MemShelf};
@@ -19,7 +19,7 @@ const USAGE: &[u8] = b"usage: faultmem live CONFIG [IMAGE]\n";
 
 /// The paths that the words behind the program's name ask for: that of the configuration, and that of the image if there is one.
 fn read_words(words: &[String]) -> Option<(&str, Option<&str>)>
-    ensures { is_some result ≡ is_call (map string_bytes words.now) }
+    ensures { option_map (λ asked. is_none asked.1) result ≡ session_in (map string_bytes words.now) }
 {
     match words {
         [word, config] => match word.as_bytes() {
@@ -43,7 +43,7 @@ fn hold<R: AllocGlobal + Files<File = File> + Wait, C: Source, S: Source, K: Sin
     source: &mut S,
     sink: &mut K,
 ) -> Status
-    ensures { (config : Reading) × IsSession (dids_of dids) config
+    ensures { (config : Reading) × IsSession (is_none image.entry) (dids_of dids) config
         (talk (S.left source.old) (S.faults source.old) (K.held sink.old) (K.faults sink.old))
         (talk (S.left source.new) (S.faults source.new) (K.held sink.new) (K.faults sink.new)) (number_of result) }
 {
@@ -80,7 +80,7 @@ pub fn run_live<R: AllocGlobal + Files<File = File> + Wait, S: Source, K: Sink>(
     source: &mut S,
     sink: &mut K,
 ) -> Status
-    ensures { IsProgram (dids_of dids) (is_call (map string_bytes words.now))
+    ensures { IsProgram (dids_of dids) (session_in (map string_bytes words.now))
         (talk (S.left source.old) (S.faults source.old) (K.held sink.old) (K.faults sink.old))
         (talk (S.left source.new) (S.faults source.new) (K.held sink.new) (K.faults sink.new)) (number_of result) }
 {

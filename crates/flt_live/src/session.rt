@@ -6,11 +6,14 @@ ghost use Rattle.flt_did.specs.Table.{dids_of};
 ghost use Rattle.flt_io.specs.Fault.{Rose};
 ghost use Rattle.flt_io.specs.Status.{number_of};
 ghost use Rattle.flt_dcm.specs.Whole.{config_of};
+ghost use Rattle.flt_flash.specs.Blocks.{device_of};
+ghost use Rattle.flt_store_model.specs.Layout.{numbers};
 ghost use Rattle.flt_store.specs.Cause.{HasRoom};
 ghost use Rattle.flt_store.specs.Store.{driver_of};
 ghost use Rattle.flt_script.specs.Script.{content};
 ghost use Rattle.flt_life_model.specs.declared.life.Boot.{Boot};
 ghost use Rattle.flt_life_model.specs.Lives.{lists};
+ghost use Rattle.flt_life_model.specs.Moment.{IsOn};
 ghost use Rattle.flt_life_model.specs.Statuses.{status_by};
 ghost use Rattle.flt_live.specs.Heard.{talk};
 ghost use Rattle.flt_live.specs.Span.{AreSpans};
@@ -61,6 +64,9 @@ fn store_over<D: Driver>(
     requires boots { 0 < (D.device_state device).bench.boots_left }
     ensures room { IfOk result (λ store. HasRoom config.now (driver_of store).room) }
     ensures boots { IfOk result (λ store. 0 < (driver_of store).device.bench.boots_left) }
+    ensures numbers { IfOk result (λ store. (driver_of store).numbers ≡ numbers) }
+    ensures device { IfOk result (λ store. (driver_of store).device ≡ device_of (D.device_state device)) }
+    ensures on { IfOk result (λ store. IsOn (D.medium config.now) (driver_of store)) }
 {
     let numbers = fee_numbers(alloc)?;
     let blocks = block_table(alloc)?;
@@ -72,6 +78,16 @@ fn store_over<D: Driver>(
         }
         Err(_) => Err(AllocError),
     }
+}
+
+/// The device of a life that ended, as its store left it.
+fn device_of_life<D: Driver>(store: Store<D>, config: &ValidConfig) -> D::Device
+    requires numbers { (driver_of store).numbers ≡ numbers }
+    requires room { HasRoom config.now (driver_of store).room }
+    ensures device { device_of (D.device_state result) ≡ (driver_of store).device }
+    ensures on { IsOn (D.medium config.now) (driver_of store) }
+{
+    store.retire().close()
 }
 
 /// Lives one after the other, each over the flash that the shelf gives, until the source ends or a life is refused. It answers the status
@@ -87,9 +103,9 @@ fn live_on<R: Wait, S: Source, K: Sink, B: Bench + Drop, H: Shelf<B>>(
 ) -> Result<Status, End>
     requires same { config_of unit.old ≡ config.now }
     ensures lived { IfOk result (λ status. (boot : Boot) × (number_of status ≡ status_by boot)
-        × AreSpans config.now (talk (S.left source.old) (S.faults source.old) (K.held sink.old) (K.faults sink.old))
+        × AreSpans H.tells config.now (talk (S.left source.old) (S.faults source.old) (K.held sink.old) (K.faults sink.old))
         (talk (S.left source.new) (S.faults source.new) (K.held sink.new) (K.faults sink.new)) boot Ended) }
-    ensures failed { IfErr result (HasFailed config.now (talk (S.left source.old) (S.faults source.old) (K.held sink.old) (K.faults sink.old))
+    ensures failed { IfErr result (HasFailed H.tells config.now (talk (S.left source.old) (S.faults source.old) (K.held sink.old) (K.faults sink.old))
         (talk (S.left source.new) (S.faults source.new) (K.held sink.new) (K.faults sink.new))) }
 {
     let Ok(mut room) = Room::new(alloc, config) else {
@@ -101,7 +117,10 @@ fn live_on<R: Wait, S: Source, K: Sink, B: Bench + Drop, H: Shelf<B>>(
     let mut number: u32 = 0;
     for _ in rt.forever() {
         number = number.saturating_add(1);
-        let flash = shelf.open(config.config().pages).map_err(End::Shelf)?;
+        let flash = match shelf.open(config.config().pages) {
+            Ok(flash) => flash,
+            Err(fault) => return Err(End::Shelf(fault)),
+        };
         let Ok(mut store) = store_over::<Fee<B>>(alloc, flash, config) else {
             return Err(End::Memory);
         };
@@ -109,7 +128,7 @@ fn live_on<R: Wait, S: Source, K: Sink, B: Bench + Drop, H: Shelf<B>>(
             rt, alloc, number, unit, &mut store, config, &mut room, &mut ear, source, sink,
         );
         match lived.end {
-            LifeEnd::Power => shelf.close(store.retire().retire()),
+            LifeEnd::Power => shelf.close(device_of_life::<Fee<B>>(store, config)),
             LifeEnd::Ended => return Ok(lived.status),
             LifeEnd::Unread => return Err(End::Unread),
             LifeEnd::Unwritten => return Err(End::Unwritten),
@@ -168,7 +187,7 @@ fn live_by<R: Wait, S: Source, K: Sink, B: Bench + Drop, H: Shelf<B>>(
     requires served { Serves (dids_of dids) script.now.config.events.items }
     ensures { let before = talk (S.left source.old) (S.faults source.old) (K.held sink.old) (K.faults sink.old) in
         let after = talk (S.left source.new) (S.faults source.new) (K.held sink.new) (K.faults sink.new) in
-        EndsFor (IsEndOf (content script.now) before after) before after (number_of result) }
+        EndsFor (IsEndOf H.tells (content script.now) before after) before after (number_of result) }
 {
     if !is_idle(&script.lives) {
         return match sink.push(b"script other\n") {
@@ -198,7 +217,7 @@ pub fn run_session<R: Wait, C: Source, S: Source, K: Sink, B: Bench + Drop, H: S
     sink: &mut K,
     shelf: &mut H,
 ) -> Status
-    ensures { IsSession (dids_of dids) (reading (C.left configuration.old) (C.left configuration.new) (C.faults configuration.old) (C.faults configuration.new))
+    ensures { IsSession H.tells (dids_of dids) (reading (C.left configuration.old) (C.left configuration.new) (C.faults configuration.old) (C.faults configuration.new))
         (talk (S.left source.old) (S.faults source.old) (K.held sink.old) (K.faults sink.old))
         (talk (S.left source.new) (S.faults source.new) (K.held sink.new) (K.faults sink.new)) (number_of result) }
 {

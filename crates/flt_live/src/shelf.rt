@@ -1,23 +1,33 @@
 //! Where the flash is between two lives of a session.
-ghost use Rattle.std.specs.Prelude.{◌≡◌, ◌<◌, ◌≤◌, IfOk};
+ghost use Rattle.std.specs.Prelude.{◌≡◌, ◌*◌, ◌<◌, ◌≤◌, ℕ, Bool, List, Option, Some, IfOk, IsTrue, length};
+ghost use Rattle.flt_file.specs.Layout.{image_in};
+ghost use Rattle.flt_live.specs.Shelf.{GivesBack, kept_in};
 
 use flt_file::{ByteStore, FileBytes, FlashFile, MemBytes, OpenFault, open_flash};
-use flt_flash::Bench;
+use flt_flash::{Bench, Flash};
+use std::alloc::Global;
 use std::fs::File;
-use std::mem;
 use std::rt::Files;
 
 /// Gives the flash for each life of a session, and takes it back.
 pub trait Shelf<B: Bench + Drop> {
-    /// The flash of so many pages a sector, 2 to 1,024, whose power may come once at least.
+    /// The image that it keeps between two lives, if it keeps one.
+    ghost kept: { Self → Option (List (List (List ℕ))) };
+
+    /// Whether it tells that image. No contract of the standard library says which bytes a file keeps, so a shelf of files tells nothing.
+    ghost tells: { Bool };
+
+    /// The flash of so many pages a sector, 2 to 1,024, whose power may come once at least. It has the image that was kept.
     fn open(&mut self, pages: u16) -> Result<B, OpenFault>
         requires least { 2 ≤ pages }
         requires most { pages ≤ 1024 }
         ensures pages { IfOk result (λ flash. (B.state flash).pages ≡ pages) }
-        ensures boots { IfOk result (λ flash. 0 < (B.state flash).bench.boots_left) };
+        ensures boots { IfOk result (λ flash. 0 < (B.state flash).bench.boots_left) }
+        ensures image { IfOk result (λ flash. IsTrue tells → GivesBack (kept self.old) (B.state flash).image) };
 
-    /// Takes the flash back when its life ended.
-    fn close(&mut self, flash: B);
+    /// Takes the flash back when its life ended, and keeps its image.
+    fn close(&mut self, flash: B)
+        ensures { IsTrue tells → kept self.new ≡ Some (B.state flash).image };
 }
 
 /// A file: each life opens it.
@@ -30,6 +40,12 @@ pub struct FileShelf<'a, R> {
 }
 
 impl<R: Files<File = File> + AllocGlobal> Shelf<FlashFile<FileBytes>> for FileShelf<'_, R> {
+    ghost use Rattle.std.specs.Prelude.{None, false};
+
+    ghost kept = { λ _. None };
+
+    ghost tells = { false };
+
     fn open(&mut self, pages: u16) -> Result<FlashFile<FileBytes>, OpenFault> {
         open_flash(self.rt, self.path, pages)
     }
@@ -38,33 +54,69 @@ impl<R: Files<File = File> + AllocGlobal> Shelf<FlashFile<FileBytes>> for FileSh
     fn close(&mut self, _flash: FlashFile<FileBytes>) {}
 }
 
-/// Bytes in memory, which are blank at first.
+/// The bytes of a flash of two sectors of so many pages.
+#[derive(Drop)]
+pub struct KeptImage {
+    /// How many pages a sector has.
+    pub pages: u16,
+    /// The bytes of sector 0, and behind them those of sector 1.
+    pub bytes: Vec<u8>,
+}
+
+/// A flash in memory, which is blank at first.
 #[derive(Drop)]
 pub struct MemShelf<'a, R> {
     rt: &'a R,
-    bytes: Vec<u8>,
+    kept: Option<KeptImage>,
 }
 
 impl<'a, R: AllocGlobal> MemShelf<'a, R> {
     /// A blank flash.
     pub fn new(rt: &'a R) -> MemShelf<'a, R> {
-        let bytes = Vec::new(rt.alloc());
-        MemShelf { rt, bytes }
+        MemShelf { rt, kept: None }
     }
 }
 
+/// The bytes of a flash of so many pages: those that were kept, or blank ones.
+fn bytes_for(
+    alloc: Global,
+    kept: &mut Option<KeptImage>,
+    pages: u16,
+) -> Result<Vec<u8>, OpenFault>
+    ensures size { IfOk result (λ bytes. length bytes.items ≡ 64 * pages) }
+    ensures kept { IfOk result (λ bytes. GivesBack (kept_in kept.old) (image_in pages bytes.items)) }
+{
+    let size = 64 * pages as usize;
+    let Some(image) = kept.take() else {
+        return Ok(Vec::from_elem(alloc, 255u8, size)?);
+    };
+    if image.pages == pages && image.bytes.len() == size {
+        return Ok(image.bytes);
+    }
+    let found = image.bytes.len() as u64;
+    *kept = Some(image);
+    Err(OpenFault::Size {
+        found,
+        needed: size as u64,
+    })
+}
+
 impl<R: AllocGlobal> Shelf<FlashFile<MemBytes>> for MemShelf<'_, R> {
+    ghost use Rattle.std.specs.Prelude.{true};
+
+    ghost kept = { λ shelf. kept_in shelf.kept };
+
+    ghost tells = { true };
+
     fn open(&mut self, pages: u16) -> Result<FlashFile<MemBytes>, OpenFault> {
         let alloc = self.rt.alloc();
-        let size = 64 * pages as usize;
-        let mut bytes = mem::replace(&mut self.bytes, Vec::new(alloc));
-        if bytes.len() != size {
-            bytes = Vec::from_elem(alloc, 255u8, size)?;
-        }
+        let bytes = bytes_for(alloc, &mut self.kept, pages)?;
         Ok(FlashFile::load(alloc, MemBytes::new(bytes), pages)?)
     }
 
     fn close(&mut self, flash: FlashFile<MemBytes>) {
-        self.bytes = flash.into_store().into_bytes();
+        let pages = flash.pages();
+        let bytes = flash.into_store().into_bytes();
+        self.kept = Some(KeptImage { pages, bytes });
     }
 }

@@ -1,16 +1,17 @@
 //! Worked sessions, which the checker computes.
+ghost use Rattle.std.specs.Prelude.{Bool};
 ghost use Rattle.flt_config.specs.declared.config.Config.{Config};
 ghost use Rattle.flt_live.specs.Heard.{Talk};
-ghost use Rattle.flt_live.specs.Examples.{EndsAreTold, LinesAreHeard, LivesFollow, PulledComesFirst, WordsAsk};
+ghost use Rattle.flt_live.specs.Examples.{EndsAreTold, LinesAreHeard, LivesFollow, PulledComesFirst, SayNothing, WordsAsk};
 
 /// What two lines come to that make no step, and what is no line.
 pub fn lines_are_heard()
-    ensures { (c : Config) → LinesAreHeard c }
+    ensures { (c : Config) → SayNothing c → LinesAreHeard c }
 {}
 
 /// How two lives follow on each other, and how they are counted.
 pub fn lives_follow()
-    ensures { (c : Config) (start : Talk) → LivesFollow c start }
+    ensures { (tells : Bool) (c : Config) (start : Talk) → LivesFollow tells c start }
 {}
 
 /// The status of each end.

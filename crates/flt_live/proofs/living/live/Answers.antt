@@ -45,7 +45,7 @@ returns-in-Started-clause-lived g c =
     life_lived config c.args.number (number_of c.status_by-status.result) before begun last unit from after c.take_lines-end.result boot c.status_by-status.ensures c.begin-boot.ensures between says
     c.say_boot.ensures.later
     (started_goes config before begun last unit between after c.take_lines-end.result boot c.in-Started.generation c.in-Started.start c.in-Started.is
-    (c.take_lines-end.ensures.taken first (begins config first (state_of c.boot.new.self) begun how.1 stands)))
+    (c.take_lines-end.ensures.taken first before.value (begins config first (state_of c.boot.new.self) begun how.1 stands) c.begin-boot.ensures.applications))
     c.take_lines-end.ensures.cause c.take_lines-end.ensures.read_faults c.take_lines-end.ensures.write_faults
 
 pub returns-in-Dark-clause-lived : goal.returns-in-Dark-clause-lived
@@ -61,7 +61,7 @@ returns-in-Dark-clause-lived g c =
     let after = talk (ahead_in (g.S.Source.left c.take_dark_lines-end.new.source) c.take_dark_lines-end.new.ear) (g.S.Source.faults c.take_dark_lines-end.new.source) (g.K.Sink.held c.take_dark_lines-end.new.sink) (g.K.Sink.faults c.take_dark_lines-end.new.sink) in
     let says : Says (boot_line c.args.number boot) from between = record { written = on_taken _ c.say_boot.result _ c.in_default.is c.say_boot.ensures.ok; ahead = refl; read_faults = refl } in
     life_lived config c.args.number (number_of c.status_by-status.result) (driver_of c.args.store.now) begun begun unit from after c.take_dark_lines-end.result boot c.status_by-status.ensures c.begin-boot.ensures between says
-    c.say_boot.ensures.later (dark_goes config begun unit between after c.take_dark_lines-end.result boot c.in-Dark.is c.take_dark_lines-end.ensures.taken)
+    c.say_boot.ensures.later (dark_goes config (driver_of c.args.store.now) begun unit between after c.take_dark_lines-end.result boot c.in-Dark.is c.take_dark_lines-end.ensures.taken)
     c.take_dark_lines-end.ensures.cause c.take_dark_lines-end.ensures.read_faults c.take_dark_lines-end.ensures.write_faults
 
 pub returns-in-Refused-clause-lived : goal.returns-in-Refused-clause-lived
@@ -76,4 +76,4 @@ returns-in-Refused-clause-lived g c =
     let between = talk ahead reads (g.K.Sink.held c.say_boot.new.sink) (g.K.Sink.faults c.say_boot.new.sink) in
     let says : Says (boot_line c.args.number boot) from between = record { written = on_taken _ c.say_boot.result _ c.in_default.is c.say_boot.ensures.ok; ahead = refl; read_faults = refl } in
     life_lived config c.args.number (number_of c.status_by-status.result) (driver_of c.args.store.now) begun begun unit from between Ended boot c.status_by-status.ensures c.begin-boot.ensures between says
-    c.say_boot.ensures.later (refused_goes config begun unit between between Ended boot c.in-Refused.field-0 c.in-Refused.is refl refl) tt (omega arith) (omega arith)
+    c.say_boot.ensures.later (refused_goes config (driver_of c.args.store.now) begun unit between between Ended boot c.in-Refused.field-0 c.in-Refused.is refl refl) tt (omega arith) (omega arith)

@@ -3,6 +3,7 @@ use Rattle.std.specs.Prelude.{◌≢◌}
 use Rattle.flt_config.specs.declared.config.Config.{Config}
 use Rattle.flt_queue.specs.Stands.{Stands}
 use Rattle.flt_dcm.specs.Whole.{state_of}
+use Rattle.flt_store.specs.Store.{driver_of}
 use Rattle.flt_live.specs.declared.line.Answered.TheVariants as told
 use Rattle.flt_live.specs.declared.reader.Line.{Line}
 use Rattle.flt_live.specs.declared.reader.Line.TheVariants.{Ended}
@@ -18,8 +19,8 @@ loop-init g c = record {
   ready = c.requires.ready;
   later_read = omega arith;
   later_write = omega arith;
-  going = λ first living.
-      going_first c.args.config.now first _ (state_of c.args.unit.now) c.in-Ok.queue c.args.store.now living
+  going = λ first found living same.
+      going_first c.args.config.now first found _ (state_of c.args.unit.now) c.in-Ok.queue c.args.store.now living same
       (subst (λ (k : Config). Stands k.blocks [] c.in-Ok.queue) c.config.ensures.value c.in-Ok.ensures.stands);
 }
 
@@ -35,31 +36,31 @@ loop-preserved g c =
       ready = c.answer_line.ensures.ready;
       later_read = omega (arith, was.later_read, c.in-Ok-hear.ensures.cause.later);
       later_write = omega (arith, was.later_write, answered.written.later);
-      going = λ first living. going_more c.args.config.now first g.K.Sink.held g.K.Sink.faults c.loop.sink c.answer_line.new.sink
+      going = λ first found living same. going_more c.args.config.now first found (driver_of c.args.store.now) g.K.Sink.held g.K.Sink.faults c.loop.sink c.answer_line.new.sink
           (talk (ahead_in (g.S.Source.left c.args.source.now) c.args.ear.now) (g.S.Source.faults c.args.source.now) (g.K.Sink.held c.args.sink.now) (g.K.Sink.faults c.args.sink.now))
           (ahead_in (g.S.Source.left c.loop.source) c.loop.ear) (ahead_in (g.S.Source.left c.hear.new.source) c.hear.new.self) (g.S.Source.faults c.loop.source) (g.S.Source.faults c.hear.new.source)
           (state_of c.loop.unit) (state_of c.answer_line.new.unit) c.loop.queue c.answer_line.new.queue c.loop.store c.answer_line.new.store
-          c.in-Ok-hear.ended (kept_in c.hear.new.self) c.text-text.result.now c.in-Ok-hear.ensures.line other c.text-text.ensures (was.going first living) c.answer_line.result answered is;
+          c.in-Ok-hear.ended (kept_in c.hear.new.self) c.text-text.result.now c.in-Ok-hear.ensures.line other c.text-text.ensures (was.going first found living same) c.answer_line.result answered is;
     }
 
 pub returns-in-Ok-Ended-clause-taken : goal.returns-in-Ok-Ended-clause-taken
-returns-in-Ok-Ended-clause-taken g c first living =
+returns-in-Ok-Ended-clause-taken g c first found living same =
     let ahead = ahead_in (g.S.Source.left c.loop.source) c.loop.ear in
     let next_ahead = ahead_in (g.S.Source.left c.hear.new.source) c.hear.new.self in
-    end_ends c.args.config.now first
+    end_ends c.args.config.now first found (driver_of c.args.store.now)
     (talk (ahead_in (g.S.Source.left c.args.source.now) c.args.ear.now) (g.S.Source.faults c.args.source.now) (g.K.Sink.held c.args.sink.now) (g.K.Sink.faults c.args.sink.now))
     (talk ahead (g.S.Source.faults c.loop.source) (g.K.Sink.held c.loop.sink) (g.K.Sink.faults c.loop.sink))
     (talk next_ahead (g.S.Source.faults c.hear.new.source) (g.K.Sink.held c.loop.sink) (g.K.Sink.faults c.loop.sink))
-    (state_of c.loop.unit) c.loop.queue c.loop.store (c.loop.invariant.going first living) refl (kept_in c.hear.new.self)
+    (state_of c.loop.unit) c.loop.queue c.loop.store (c.loop.invariant.going first found living same) refl (kept_in c.hear.new.self)
     (subst (λ (e : Line). TakesLine ahead next_ahead e (kept_in c.hear.new.self)) c.in-Ok-Ended.field-0-is c.in-Ok-Ended.ensures.line)
 
 pub returns-in-Err-clause-taken : goal.returns-in-Err-clause-taken
-returns-in-Err-clause-taken g c first living =
-    unread_ends c.args.config.now first
+returns-in-Err-clause-taken g c first found living same =
+    unread_ends c.args.config.now first found (driver_of c.args.store.now)
     (talk (ahead_in (g.S.Source.left c.args.source.now) c.args.ear.now) (g.S.Source.faults c.args.source.now) (g.K.Sink.held c.args.sink.now) (g.K.Sink.faults c.args.sink.now))
     (talk (ahead_in (g.S.Source.left c.loop.source) c.loop.ear) (g.S.Source.faults c.loop.source) (g.K.Sink.held c.loop.sink) (g.K.Sink.faults c.loop.sink))
     (talk (ahead_in (g.S.Source.left c.hear.new.source) c.hear.new.self) (g.S.Source.faults c.hear.new.source) (g.K.Sink.held c.loop.sink) (g.K.Sink.faults c.loop.sink))
-    (state_of c.loop.unit) c.loop.queue c.loop.store (c.loop.invariant.going first living) refl
+    (state_of c.loop.unit) c.loop.queue c.loop.store (c.loop.invariant.going first found living same) refl
     (rose_later (g.S.Source.faults c.args.source.now) (g.S.Source.faults c.loop.source) (g.S.Source.faults c.hear.new.source) c.loop.invariant.later_read c.in-Err.ensures.cause.failed)
 
 pub returns-in-Ok-Power : goal.returns-in-Ok-Power
@@ -71,11 +72,11 @@ returns-in-Ok-Power g c =
     record {
       same = c.answer_line.ensures.same;
       ready = c.answer_line.ensures.ready;
-      taken = λ first living. power_ends c.args.config.now first g.K.Sink.held g.K.Sink.faults c.loop.sink c.answer_line.new.sink
+      taken = λ first found living same. power_ends c.args.config.now first found (driver_of c.args.store.now) g.K.Sink.held g.K.Sink.faults c.loop.sink c.answer_line.new.sink
           (talk (ahead_in (g.S.Source.left c.args.source.now) c.args.ear.now) (g.S.Source.faults c.args.source.now) (g.K.Sink.held c.args.sink.now) (g.K.Sink.faults c.args.sink.now))
           (ahead_in (g.S.Source.left c.loop.source) c.loop.ear) (ahead_in (g.S.Source.left c.hear.new.source) c.hear.new.self) (g.S.Source.faults c.loop.source) (g.S.Source.faults c.hear.new.source)
           (state_of c.loop.unit) (state_of c.answer_line.new.unit) c.loop.queue c.answer_line.new.queue c.loop.store c.answer_line.new.store
-          c.in-Ok-hear.ended (kept_in c.hear.new.self) c.text-text.result.now c.in-Ok-hear.ensures.line other c.text-text.ensures (was.going first living) c.answer_line.result answered is;
+          c.in-Ok-hear.ended (kept_in c.hear.new.self) c.text-text.result.now c.in-Ok-hear.ensures.line other c.text-text.ensures (was.going first found living same) c.answer_line.result answered is;
       cause = tt;
       read_faults = omega (arith, was.later_read, c.in-Ok-hear.ensures.cause.later);
       write_faults = omega (arith, was.later_write, answered.written.later);

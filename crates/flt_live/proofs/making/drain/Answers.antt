@@ -1,6 +1,8 @@
 use Rattle.std.proofs.Common.{◌≡◌, ◌<◌, ◌≤◌, ◌∙◌, ◌+◌, ℕ, Bool, true, false, not, refl, subst, arith}
 use Rattle.std.specs.Int.{from_bool}
 use Rattle.flt_turn.specs.Sums.{one_if}
+use Rattle.flt_flash.proofs.CallsInARow.{more_calls, no_call}
+use Rattle.flt_store.specs.Store.{driver_of}
 use Rattle.flt_live.specs.Draining.{IsDraining}
 use Rattle.flt_live.proofs.Jobs.{draining_first, draining_more, drains_full, drains_short}
 use Rattle.flt_live.proofs.making.drain.Goals as goal
@@ -14,7 +16,8 @@ loop-job-init g c = record {
   blocks = refl;
   running = λ held spare running. running;
   few = omega arith;
-  draining = λ jobs stands. draining_first c.args.config.now.blocks jobs c.args.queue.now stands;
+  follows = no_call (driver_of c.args.store.now);
+  draining = λ jobs stands. draining_first c.args.config.now jobs c.args.store.now c.args.queue.now stands;
 }
 
 pub take_job-requires-clause-blocks : goal.take_job-requires-clause-blocks
@@ -36,23 +39,29 @@ loop-job-preserved g c =
       blocks = c.take_job.ensures.blocks ∙ before.invariant.blocks;
       running = λ held spare running. c.take_job.ensures.running held spare (before.invariant.running held spare running);
       few = one_each was before.written before.failed before._job _ _ some none few;
+      follows = more_calls (driver_of c.args.store.now) (driver_of before.store) (driver_of c.take_job.new.store) before.invariant.follows c.take_job.ensures.follows;
       draining = λ jobs stands.
           (let on = before.invariant.draining jobs stands in
-          subst (λ n. IsDraining c.args.config.now.blocks jobs (before._job + 1) n (before.failed + c.from-failed.result) c.take_job.new.queue) (omega (arith, some))
-          (subst (λ n. IsDraining c.args.config.now.blocks jobs (before._job + 1) (before.written + one_if was) n c.take_job.new.queue) (omega (arith, none))
-          (draining_more c.args.config.now.blocks jobs before._job before.written before.failed was before.queue c.take_job.new.queue on (c.in-Some.ensures.taken _ on.stands))));
+          subst (λ n. IsDraining c.args.config.now jobs (before._job + 1) n (before.failed + c.from-failed.result) c.take_job.new.queue c.args.store.now c.take_job.new.store) (omega (arith, some))
+          (subst (λ n. IsDraining c.args.config.now jobs (before._job + 1) (before.written + one_if was) n c.take_job.new.queue c.args.store.now c.take_job.new.store) (omega (arith, none))
+          (draining_more c.args.config.now jobs c.args.store.now before._job before.written before.failed was before.queue c.take_job.new.queue before.store c.take_job.new.store on (c.in-Some.ensures.taken _ on.stands)
+          (each_one was before.written before.failed before._job on.all))));
     }
   where
     one_each : (was : Bool) (written failed job some none : ℕ) → some ≡ one_if was → none ≡ one_if (not was) → written + failed ≤ job → (written + some) + (failed + none) ≤ job + 1
     one_each true written failed job some none some_is none_is few = omega (arith, some_is, none_is, few)
     one_each false written failed job some none some_is none_is few = omega (arith, some_is, none_is, few)
 
+    each_one : (was : Bool) (written failed job : ℕ) → written + failed ≡ job → (written + one_if was) + (failed + one_if (not was)) ≡ job + 1
+    each_one true written failed job all = omega (arith, all)
+    each_one false written failed job all = omega (arith, all)
+
 pub returns-in_default-clause-drained : goal.returns-in_default-clause-drained
 returns-in_default-clause-drained g c = λ jobs stands.
     let before = c.loop-job in
     let on = before.invariant.draining jobs stands in
     let few : before._job < 32 = omega (arith, c.loop-job-test.true) in
-    drains_short c.args.config.now.blocks jobs before._job before.written before.failed before.queue c.take_job.new.queue few on (c.in_default.ensures.taken _ on.stands)
+    drains_short c.args.config.now jobs c.args.store.now before._job before.written before.failed before.queue c.take_job.new.queue before.store c.take_job.new.store few on (c.in_default.ensures.taken _ on.stands)
 
 pub returns-in_default-clause-blocks : goal.returns-in_default-clause-blocks
 returns-in_default-clause-blocks g c = c.take_job.ensures.blocks ∙ c.loop-job.invariant.blocks
@@ -64,5 +73,9 @@ pub returns-clause-drained : goal.returns-clause-drained
 returns-clause-drained g c = λ jobs stands.
     let on = c.loop-job in
     let all : on._job ≡ 32 = omega (arith, c.loop-job-test.false, on.auto._job-end) in
-    drains_full c.args.config.now.blocks jobs on.written on.failed on.queue
-    (subst (λ n. IsDraining c.args.config.now.blocks jobs n on.written on.failed on.queue) all (on.invariant.draining jobs stands))
+    drains_full c.args.config.now jobs c.args.store.now on.written on.failed on.queue on.store
+    (subst (λ n. IsDraining c.args.config.now jobs n on.written on.failed on.queue c.args.store.now on.store) all (on.invariant.draining jobs stands))
+
+pub returns-in_default-clause-follows : goal.returns-in_default-clause-follows
+returns-in_default-clause-follows g c =
+    more_calls (driver_of c.args.store.now) (driver_of c.loop-job.store) (driver_of c.take_job.new.store) c.loop-job.invariant.follows c.take_job.ensures.follows

@@ -2,7 +2,8 @@ use Rattle.std.proofs.Common.{◌≡◌, ◌≤◌, ◌+◌}
 use Rattle.flt_store_model.specs.Holding.{Generation}
 use Rattle.flt_queue.specs.Queue.{History}
 use Rattle.flt_queue.specs.Stands.{Stands}
-use Rattle.flt_store.specs.Store.{IsRunning}
+use Rattle.flt_flash.specs.Calls.{Follows}
+use Rattle.flt_store.specs.Store.{IsRunning, driver_of}
 use Rattle.flt_live.specs.Draining.{IsDraining}
 use Rattle.flt_live.proofs.making.drain.Given as goal
 
@@ -11,5 +12,6 @@ invariant-loop-job g l = record {
   blocks : l.queue.blocks ≡ l.initial.queue.blocks;
   running : (held spare : Generation) → IsRunning l.config held spare l.initial.store → IsRunning l.config held spare l.store;
   few : l.written + l.failed ≤ l._job;
-  draining : (jobs : History) → Stands l.config.blocks jobs l.initial.queue → IsDraining l.config.blocks jobs l._job l.written l.failed l.queue;
+  follows : Follows (driver_of l.initial.store) (driver_of l.store);
+  draining : (jobs : History) → Stands l.config.blocks jobs l.initial.queue → IsDraining l.config jobs l._job l.written l.failed l.queue l.initial.store l.store;
 }

@@ -1,4 +1,5 @@
-use Rattle.std.proofs.Common.{◌∙◌, ◌∷◌, sym, subst}
+use Rattle.std.proofs.Common.{◌<◌, ◌∙◌, ◌∷◌, sym, subst, arith}
+use Rattle.flt_store_model.specs.Layout.{applications}
 use Rattle.flt_dcm.specs.Whole.{state_of}
 use Rattle.flt_queue.specs.Stands.{Stands}
 use Rattle.flt_life_model.specs.Actions.{IsPossible}
@@ -16,7 +17,7 @@ pub returns-in-Queue-clause-made : goal.returns-in-Queue-clause-made
 returns-in-Queue-clause-made g c = λ step is.
     let blocks = c.requires.blocks in
     let old = c.args.queue.now in
-    made_queue c.args.config.now step c.in-Queue.op _ _ (is ∙ c.in-Queue.is) (state_of c.args.unit.now) old c.apply-reply.new.self c.args.store.now
+    made_queue c.args.config.now step c.in-Queue.op _ _ (is ∙ c.in-Queue.is) (subst (IsPossible c.args.config.now) c.in-Queue.is c.requires.possible).0 (state_of c.args.unit.now) old c.apply-reply.new.self c.args.store.now
     (λ jobs stands. subst (λ n. Stands n (c.in-Queue.op ∷ jobs) c.apply-reply.new.self) blocks (c.apply-reply.ensures.stands jobs (subst (λ n. Stands n jobs old) (sym blocks) stands)))
     (λ jobs stands. c.apply-reply.ensures.answer jobs (subst (λ n. Stands n jobs old) (sym blocks) stands))
 
@@ -24,19 +25,23 @@ pub returns-in-Save-clause-made : goal.returns-in-Save-clause-made
 returns-in-Save-clause-made g c = λ step is.
     let response = c.save.new.buffers.response.items in
     made_save c.args.config.now step (told_with response c.save.result) (is ∙ c.in-Save.is) (c.save.ensures.is response) (state_of c.args.unit.now) (state_of c.save.new.unit) c.args.queue.now c.args.store.now c.save.new.store
-    (λ first journal earlier living. c.save.ensures.living first journal earlier response living)
+    (λ first journal earlier living. c.save.ensures.living first journal earlier response living) (λ begun earlier caused. c.save.ensures.caused begun earlier response caused) c.save.ensures.applications c.save.ensures.follows
 
 pub returns-in-Get-clause-made : goal.returns-in-Get-clause-made
 returns-in-Get-clause-made g c = λ step is.
     let response = c.args.buffers.now.response.items in
-    made_get c.args.config.now step (told_with response c.get.result) c.in-Get.block (is ∙ c.in-Get.is) (c.get.ensures.is response) (state_of c.args.unit.now) c.args.queue.now c.args.store.now c.get.new.store
-    (λ first journal earlier living. c.get.ensures.living first journal earlier (state_of c.args.unit.now) response living)
+    let most = c.requires.under_way.valid.blocks in
+    let here : c.in-Get.block < c.args.config.now.blocks = subst (IsPossible c.args.config.now) c.in-Get.is c.requires.possible in
+    let below : c.in-Get.block < applications = omega (arith, here, most) in
+    made_get c.args.config.now step (told_with response c.get.result) c.in-Get.block (is ∙ c.in-Get.is) (c.get.ensures.is response) below (state_of c.args.unit.now) c.args.queue.now c.args.store.now c.get.new.store
+    (λ first journal earlier living. c.get.ensures.living first journal earlier (state_of c.args.unit.now) response living) (λ begun earlier caused. c.get.ensures.caused begun earlier response caused)
+    (c.get.ensures.found response) c.get.ensures.values c.get.ensures.follows
 
 pub returns-in-Drain-clause-made : goal.returns-in-Drain-clause-made
 returns-in-Drain-clause-made g c = λ step is.
     let alive = c.requires.alive in
     made_drain c.args.config.now step c.drain-written.result.0 c.drain-written.result.1 (is ∙ c.in-Drain.is) (state_of c.args.unit.now) c.args.queue.now c.drain-written.new.queue c.args.store.now c.drain-written.new.store
-    c.drain-written.ensures.running c.drain-written.ensures.drained
+    c.drain-written.ensures.running c.drain-written.ensures.follows c.drain-written.ensures.drained
 
 pub returns-in-Drain-clause-alive : goal.returns-in-Drain-clause-alive
 returns-in-Drain-clause-alive g c =

@@ -1,7 +1,8 @@
-use Rattle.std.proofs.Common.{◌∷◌, refl}
+use Rattle.std.proofs.Common.{◌∷◌, Err, ap, refl}
 use Rattle.flt_model.specs.declared.call.Op.TheVariants as ops
 use Rattle.flt_life_model.specs.Journal.{entry, calls_of}
 use Rattle.flt_life_model.specs.Chain.{start_from}
+use Rattle.flt_life_model.proofs.Causing.{caused_saved, caused_failed}
 use Rattle.flt_life_model.proofs.Keeping.{kept_saved, kept_failed}
 use Rattle.flt_live.proofs.making.save.Goals as goal
 
@@ -32,3 +33,16 @@ returns-in-Err-clause-living g c = λ first journal told response living.
       running = left.running;
       kept = kept_failed c.args.config.now first journal told living.held living.spare living.kept left.chosen left.is 0 c.in-Err.fault left.now_held left.now_spare held_is spare_is;
     }
+
+pub returns-in-Ok-clause-caused : goal.returns-in-Ok-clause-caused
+returns-in-Ok-clause-caused g c = λ begun told response caused.
+    caused_saved c.args.config.now begun told c.args.store.now c.save.new.self caused c.take_snapshot.new.buffers.state c.in-Ok.generation c.save.ensures.follows
+    (c.in-Ok.ensures.saved caused.held_now caused.spare_now caused.running)
+
+pub returns-in-Err-clause-caused : goal.returns-in-Err-clause-caused
+returns-in-Err-clause-caused g c = λ begun told response caused.
+    caused_failed c.args.config.now begun told c.args.store.now c.save.new.self caused c.take_snapshot.new.buffers.state c.in-Err.fault c.save.ensures.follows
+    (c.in-Err.ensures.failed caused.held_now caused.spare_now caused.running)
+    (λ is. c.in-Err.ensures.flash caused.held_now caused.spare_now caused.running (ap Err is))
+    (λ is. c.in-Err.ensures.spent caused.held_now caused.spare_now caused.running (ap Err is))
+    (λ is. (let stuck = c.in-Err.ensures.sequence caused.held_now caused.spare_now caused.running (ap Err is) in g.met.D.Blocks.stuck_is_spent c.save.new.self.nvm.blocks stuck.0 stuck.1 stuck.3))

@@ -1,4 +1,12 @@
-use Rattle.std.proofs.Common.{◌∷◌, subst, sym}
+use Rattle.std.proofs.Common.{◌≡◌, ◌∷◌, Ok, Err, true, subst, sym}
+use Rattle.std.specs.Prelude.{◌⊎◌, OnOk, is_ok}
+use Rattle.std.specs.declared.result.Result.{Result}
+use Rattle.std.proofs.lemmas.Bool.{false≢true}
+use Rattle.flt_flash.specs.Content.{bytes as holding}
+use Rattle.flt_store_model.specs.Layout.{application_number}
+use Rattle.flt_store.specs.Store.{driver_of}
+use Rattle.flt_life_model.specs.Draining.{WritesJob}
+use Rattle.flt_life_model.proofs.Causing.{rose_by}
 use Rattle.flt_queue.specs.declared.job.QueueOp.TheVariants as ops
 use Rattle.flt_queue.specs.Stands.{Stands}
 use Rattle.flt_live.proofs.making.write_job.Goals as goal
@@ -6,8 +14,31 @@ use Rattle.flt_live.proofs.making.write_job.Goals as goal
 pub put_block-requires-clause-alive : goal.put_block-requires-clause-alive
 put_block-requires-clause-alive g c = (c.args.config.now, c.requires.job.0, c.requires.alive)
 
-pub returns-clause-running : goal.returns-clause-running
-returns-clause-running g c = λ held spare running. c.put_block.ensures.running c.args.config.now c.requires.job.0 held spare running
+-- What was put, where that was answered.
+on_ok : {T E : Type 0} (result : Result T E) (P : Type 0) → OnOk result P → is_ok result ≡ true → P
+on_ok (Ok value) P holds is = holds
+on_ok (Err fault) P holds is = absurd (false≢true is)
+
+pub returns-clause-wrote : goal.returns-clause-wrote
+returns-clause-wrote g c =
+    let config = c.args.config.now in
+    let job = c.args.job.now in
+    let number = application_number job.block in
+    let before = driver_of c.args.store.now in
+    let after = driver_of c.put_block.new.self in
+    let result = c.put_block.result in
+    let within = c.requires.job.0 in
+    let counts = c.put_block.ensures.follows.counts in
+    let put : WritesJob config job (is_ok result) c.args.store.now c.put_block.new.self = record {
+      all = on_ok result (after.value number ≡ holding job.bytes.items) (subst (λ l. OnOk result (after.value number ≡ holding l)) c.deref.ensures.0 c.put_block.ensures.put);
+      either = subst (λ l. (after.value number ≡ before.value number) ⊎ (after.value number ≡ holding l)) c.deref.ensures.0 c.put_block.ensures.either;
+      others = c.put_block.ensures.others;
+      running = c.put_block.ensures.running config within;
+      rose = λ held spare running unspent. rose_by result before.device.faults after.device.faults after.is_spent (c.put_block.ensures.flash config within held spare running)
+          (λ is. g.met.D.Blocks.stuck_is_spent c.put_block.new.self.nvm.blocks _ _ (c.put_block.ensures.sequence is)) counts unspent;
+      follows = c.put_block.ensures.follows;
+    } in
+    subst (λ w. WritesJob config job w c.args.store.now c.put_block.new.self) (sym c.is_ok-written.ensures.value) put
 
 pub returns-clause-noted : goal.returns-clause-noted
 returns-clause-noted g c = λ jobs stands.

@@ -21,7 +21,7 @@ returns-in-Err-Unread g c =
     let idle = subst (λ (l : List (Vec Part Global)). IsIdle (lists l)) c.deref.ensures.value (c.is_idle.ensures.0 yes) in
     let before = talk (g.S.Source.left c.args.source.now) (g.S.Source.faults c.args.source.now) (g.K.Sink.held c.args.sink.now) (g.K.Sink.faults c.args.sink.now) in
     let after = talk (g.S.Source.left c.live_on.new.source) (g.S.Source.faults c.live_on.new.source) (g.K.Sink.held c.live_on.new.sink) (g.K.Sink.faults c.live_on.new.sink) in
-    let failed = subst (HasFailed c.args.script.now.config before after) c.in-Err-Unread.field-0-is c.in-Err-Unread.ensures.failed in
+    let failed = subst (HasFailed g.H.Shelf.tells c.args.script.now.config before after) c.in-Err-Unread.field-0-is c.in-Err-Unread.ensures.failed in
     inl (record { end = Unread; cause = (idle, failed); status_is = refl })
 
 pub returns-in-Err-Shelf : goal.returns-in-Err-Shelf
@@ -31,5 +31,5 @@ returns-in-Err-Shelf g c =
     let before = talk (g.S.Source.left c.args.source.now) (g.S.Source.faults c.args.source.now) (g.K.Sink.held c.args.sink.now) (g.K.Sink.faults c.args.sink.now) in
     let between = talk (g.S.Source.left c.live_on.new.source) (g.S.Source.faults c.live_on.new.source) (g.K.Sink.held c.live_on.new.sink) (g.K.Sink.faults c.live_on.new.sink) in
     let after = talk (g.S.Source.left c.live_on.new.source) (g.S.Source.faults c.live_on.new.source) (g.K.Sink.held c.tell_shelf.new.sink) (g.K.Sink.faults c.tell_shelf.new.sink) in
-    let failed = subst (HasFailed c.args.script.now.config before between) c.in-Err-Shelf.field-0-is c.in-Err-Shelf.ensures.failed in
-    shelf_ends (content c.args.script.now) c.in-Err-Shelf.fault before between after _ idle failed.0 refl failed.1 c.tell_shelf.ensures
+    let failed = subst (HasFailed g.H.Shelf.tells c.args.script.now.config before between) c.in-Err-Shelf.field-0-is c.in-Err-Shelf.ensures.failed in
+    shelf_ends g.H.Shelf.tells (content c.args.script.now) c.in-Err-Shelf.fault before between after _ idle failed.0 refl failed.1 c.tell_shelf.ensures

@@ -13,7 +13,7 @@ returns-in-Script g c =
     let before = talk (g.S.Source.left c.args.source.now) (g.S.Source.faults c.args.source.now) (g.K.Sink.held c.args.sink.now) (g.K.Sink.faults c.args.sink.now) in
     let after = talk (g.S.Source.left c.live_by.new.source) (g.S.Source.faults c.live_by.new.source) (g.K.Sink.held c.live_by.new.sink) (g.K.Sink.faults c.live_by.new.sink) in
     let fetched = c.in-Script.ensures in
-    session_of (dids_of c.args.dids) config before after (number_of c.live_by.result) (content c.in-Script.script) fetched.0 fetched.1 c.live_by.ensures
+    session_of g.H.Shelf.tells (dids_of c.args.dids) config before after (number_of c.live_by.result) (content c.in-Script.script) fetched.0 fetched.1 c.live_by.ensures
 
 pub returns-in-Refused : goal.returns-in-Refused
 returns-in-Refused g c =
@@ -22,5 +22,5 @@ returns-in-Refused g c =
     let reads = g.S.Source.faults c.args.source.now in
     let before = talk left reads (g.K.Sink.held c.args.sink.now) (g.K.Sink.faults c.args.sink.now) in
     let after = talk left reads (g.K.Sink.held c.write_script_fault.new.sink) (g.K.Sink.faults c.write_script_fault.new.sink) in
-    line_told g.K.Sink.held g.K.Sink.faults c.args.sink.now c.write_script_fault.new.sink reads reads left left (HasCause (dids_of c.args.dids) config before after) (Refused c.in-Refused.fault)
+    line_told g.K.Sink.held g.K.Sink.faults c.args.sink.now c.write_script_fault.new.sink reads reads left left (HasCause g.H.Shelf.tells (dids_of c.args.dids) config before after) (Refused c.in-Refused.fault)
     (script_fault_line c.in-Refused.fault) c.write_script_fault.result (number_of c.status_told.result) (λ told. (c.in-Refused.ensures.0, c.in-Refused.ensures.1, told)) c.write_script_fault.ensures c.status_told.ensures
