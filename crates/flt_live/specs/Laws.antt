@@ -1,13 +1,22 @@
 -- What follows for the lives of a session if the first one finds a sound image.
-use Rattle.std.specs.Prelude.{List, [], ◌∷◌, map, true}
+use Rattle.std.specs.Prelude.{◌≡◌, ◌⊎◌, ◌==◌, ℕ, List, [], ◌∷◌, map, true}
 use Rattle.flt_config.specs.declared.config.Config.{Config}
+use Rattle.flt_config.specs.declared.persist.Persist.{Persist}
+use Rattle.flt_file.specs.declared.opening.OpenFault.{OpenFault}
+use Rattle.flt_file.specs.declared.opening.OpenFault.TheVariants as shelves
+use Rattle.flt_restore.specs.declared.fault.StartFault.{StartFault}
+use Rattle.flt_restore.specs.declared.fault.StartFault.TheVariants as faults
+use Rattle.flt_script.specs.declared.fault.ScriptFault.{ScriptFault}
 use Rattle.flt_store_model.specs.Laws.{IsGiven}
+use Rattle.flt_life_model.specs.Applications.{Choose}
 use Rattle.flt_life_model.specs.Chain.{LifeView}
 use Rattle.flt_life_model.specs.Laws.{BeginsNoOlder, IsNoOlder, IsSoundIn, acknowledged_in, last_acknowledged}
 use Rattle.flt_life_model.specs.Moment.{moment_of}
 use Rattle.flt_life_model.specs.declared.life.Boot.{Boot}
+use Rattle.flt_life_model.specs.declared.life.Boot.TheVariants as boots
 use Rattle.flt_live.specs.declared.living.LifeEnd.{LifeEnd}
 use Rattle.flt_live.specs.Heard.{Talk}
+use Rattle.flt_live.specs.Session.{Closed, Ended, Other, Refused, SessionEnd, Unread, Unreadable, status_due}
 use Rattle.flt_live.specs.Span.{AreSpans, LifeSpan}
 
 -- The first of these lives, which is the last of the list, finds a sound image.
@@ -32,3 +41,37 @@ EachGoesOn c (life ∷ earlier) =
 abbrev pub SessionsKeep : Type 0
 SessionsKeep = (c : Config) → IsGiven c → (from to : Talk) (boot : Boot) (end : LifeEnd) (lives : AreSpans true c from to boot end)
     → FirstFindsSound c (lives.life ∷ lives.earlier) → EachGoesOn c (lives.life ∷ lives.earlier)
+
+-- ---- what a status means
+
+-- A shelf did not give its flash for another reason than its size, its user, or memory.
+abbrev pub IsUnopened : OpenFault → Type 0
+IsUnopened (shelves.Size found needed) = ⊥
+IsUnopened shelves.InUse = ⊥
+IsUnopened shelves.Memory = ⊥
+IsUnopened _ = Unit {0}
+
+-- An image was found damaged, or of another configuration.
+abbrev pub IsFaulty : StartFault → Type 0
+IsFaulty faults.Flash = ⊥
+IsFaulty (faults.Damaged place) = Unit {0}
+IsFaulty (faults.OtherConfig found wanted) = Unit {0}
+IsFaulty faults.SequenceSpent = ⊥
+
+-- The ends that a status is given for, and no other.
+abbrev pub MayEndSo : ℕ → SessionEnd → Type 0
+MayEndSo status end =
+    Choose (status == 0) ((number : ℕ) × (state : Persist) × (end ≡ Ended (boots.Started number state)))
+    (Choose (status == 2) ((end ≡ Other) ⊎ ((fault : ScriptFault) × (end ≡ Refused fault)))
+    (Choose (status == 3) ((end ≡ Unreadable) ⊎ (end ≡ Unread))
+    (Choose (status == 5) ((end ≡ Ended boots.Dark) ⊎ (end ≡ Ended (boots.Refused faults.Flash)))
+    (Choose (status == 6) ((fault : StartFault) × IsFaulty fault × (end ≡ Ended (boots.Refused fault)))
+    (Choose (status == 7) (end ≡ Closed shelves.Memory)
+    (Choose (status == 8) (end ≡ Ended (boots.Refused faults.SequenceSpent))
+    (Choose (status == 14) ((found : ℕ) × (needed : ℕ) × (end ≡ Closed (shelves.Size found needed)))
+    (Choose (status == 15) (end ≡ Closed shelves.InUse)
+    (Choose (status == 16) ((fault : OpenFault) × IsUnopened fault × (end ≡ Closed fault)) ⊥)))))))))
+
+-- So each status that is due says why a session ended.
+abbrev pub StatusesTell : Type 0
+StatusesTell = (end : SessionEnd) → MayEndSo (status_due end) end
