@@ -26,9 +26,11 @@ use Rattle.flt_live.specs.declared.living.LifeEnd.{LifeEnd}
 use Rattle.flt_live.specs.declared.living.LifeEnd.TheVariants.{Power, Ended, Unread, Unwritten, Memory}
 use Rattle.flt_live.specs.Begun.{Begins, IsBegunBy}
 use Rattle.flt_live.specs.Heard.{Says, Talk, answers_of}
-use Rattle.flt_live.specs.Lived.{GoesOnBy, IsLifeLived, IsLostFor, TakesDarkLines, TakesLines, UnlessLost, lost_by}
-use Rattle.flt_live.proofs.Hearing.{lost_anyway, lost_for, rose_later}
-use Rattle.flt_live.proofs.Writings.{appends_more, nothing_more}
+use Rattle.flt_live.specs.Lived.{GoesOnBy, IfLost, IsCutShort, IsLifeLived, IsLostFor, TakesDarkLines, TakesLines, UnlessLost, lost_by}
+use Rattle.flt_live.proofs.Hearing.{lost_anyway, lost_cut, lost_for, rose_later}
+use Rattle.std.proofs.lemmas.List.{append-nil}
+use Rattle.flt_io.specs.Sink.{AppendsFront}
+use Rattle.flt_live.proofs.Writings.{front_more}
 
 -- A life begins with the generation that was found.
 pub begins : {B : Type 0} {b : Ghosts B} (c : Config) (first : Generation) (unit : UnitView) (store : Store B b) → IsRunning c first first store → Stands (start_from c first.state) [] unit
@@ -42,6 +44,13 @@ unless Ended P Q more holds = more holds
 unless Unread P Q more holds = more holds
 unless Unwritten P Q more holds = tt
 unless Memory P Q more holds = tt
+
+if_lost : (end : LifeEnd) (P Q : Type 0) → (P → Q) → IfLost end P → IfLost end Q
+if_lost Power P Q more holds = tt
+if_lost Ended P Q more holds = tt
+if_lost Unread P Q more holds = tt
+if_lost Unwritten P Q more holds = more holds
+if_lost Memory P Q more holds = more holds
 
 lost_later : (end : LifeEnd) (first before after : ℕ) → first ≤ before → IsLostFor before after end → IsLostFor first after end
 lost_later Power first before after later lost = tt
@@ -58,8 +67,8 @@ module _ {B : Type 0} {b : Ghosts B} (c : Config) (number status : ℕ) (before 
   -- A life whose first line was written.
   pub life_lived : (boot : Boot) → status ≡ status_by boot → Begins c before boot begun → (between : Talk) → Says (boot_line number boot) from between → from.write_faults ≤ between.write_faults
       → UnlessLost end (GoesOnBy c boot before.value begun last unit between after end) → IsLostFor between.write_faults after.write_faults end
-      → from.read_faults ≤ after.read_faults → between.write_faults ≤ after.write_faults → IsLifeLived c number status before last unit from after end
-  life_lived boot is begins between says later goes lost reads writes = record {
+      → IfLost end (IsCutShort c [] between after) → from.read_faults ≤ after.read_faults → between.write_faults ≤ after.write_faults → IsLifeLived c number status before last unit from after end
+  life_lived boot is begins between says later goes lost cut reads writes = record {
     boot = boot;
     status_is = is;
     begun = begun;
@@ -68,19 +77,23 @@ module _ {B : Type 0} {b : Ghosts B} (c : Config) (number status : ℕ) (before 
         ((t : Talk) × Says (boot_line number boot) from t × GoesOnBy c boot before.value begun last unit t after end)
         (λ holds. (between, says, holds)) goes;
     lost = lost_later end from.write_faults between.write_faults after.write_faults later lost;
+    cut = if_lost end (IsCutShort c [] between after) (IsCutShort c (boot_line number boot) from after)
+        (λ short. record { heard = short.heard; made = short.made; are = short.are; front = front_more from.held between.held after.held (boot_line number boot) (answers_of short.heard) says.written short.front }) cut;
     later = record { read = reads; write = omega (arith, later, writes) };
   }
 
   -- A life whose first line was not written.
   pub life_lost : (boot : Boot) → status ≡ status_by boot → Begins c before boot begun → (fault : StreamFault) → end ≡ lost_by fault → (fault ≡ streams.Failed → Rose from.write_faults after.write_faults)
-      → from.read_faults ≤ after.read_faults → from.write_faults ≤ after.write_faults → IsLifeLived c number status before last unit from after end
-  life_lost boot is begins fault lost rose reads writes = record {
+      → AppendsFront from.held after.held (boot_line number boot) → from.read_faults ≤ after.read_faults → from.write_faults ≤ after.write_faults → IsLifeLived c number status before last unit from after end
+  life_lost boot is begins fault lost rose front reads writes = record {
     boot = boot;
     status_is = is;
     begun = begun;
     is = begins;
     said = lost_anyway fault end ((t : Talk) × Says (boot_line number boot) from t × GoesOnBy c boot before.value begun last unit t after end) lost;
     lost = lost_for from.write_faults from.write_faults after.write_faults fault end lost (omega arith) rose;
+    cut = lost_cut fault end (IsCutShort c (boot_line number boot) from after) lost
+        (record { heard = []; made = []; are = refl; front = subst (AppendsFront from.held after.held) (sym (append-nil (boot_line number boot))) front });
     later = record { read = reads; write = writes };
   }
 

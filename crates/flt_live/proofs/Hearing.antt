@@ -32,10 +32,11 @@ use Rattle.flt_live.specs.Ahead.{TakesLine, end_of, text_of}
 use Rattle.flt_live.specs.Answered.{Answers, IsDarkLineAnswered, IsLineAnswered, IsToldBy, LeavesAll, dark_line}
 use Rattle.flt_live.specs.Due.{due_at}
 use Rattle.flt_live.specs.Heard.{AreHeard, ComesTo, Heard, IsOneLine, Talk, answers_of, bytes_of, talk, text_in}
-use Rattle.flt_live.specs.Lived.{AreDark, IsLostFor, TakesDarkLines, TakesLines, UnlessLost, lost_by}
+use Rattle.flt_live.specs.Lived.{AreDark, IfLost, IsCutShort, IsLostFor, TakesDarkLines, TakesLines, UnlessLost, lost_by}
 use Rattle.flt_live.specs.Made.{IsMidway, Made}
 use Rattle.flt_live.proofs.Taking.{then_takes}
-use Rattle.flt_live.proofs.Writings.{appends_more, nothing_more}
+use Rattle.flt_io.specs.Sink.{AppendsFront}
+use Rattle.flt_live.proofs.Writings.{appends_more, front_more, front_of, nothing_more, nothing_of}
 
 -- ---- a line that was taken
 
@@ -88,6 +89,32 @@ pub failed_rose : {K T : Type 0} (held : K → Option (List ℕ)) (count : K →
     → result ≡ Err fault → Writes held count before after text result → fault ≡ streams.Failed → Rose (count before) (count after)
 failed_rose held count before after text result fault is writes same = writes.cause (is ∙ ap Err same)
 
+-- A line was not answered whole: a front of the answers so far and of its own was written.
+cut_by : (c : Config) (first middle last : Option (List ℕ)) (heard : List Heard) (made : List Made) → AreHeard c heard made → Appends first middle (answers_of heard) → (start : Talk) → start.held ≡ first → (next : Talk) → next.held ≡ last
+    → (line : Heard) → IsOneLine line.ended line.whole → AppendsFront middle last line.answer → (line.answer ≡ []) ⊎ ((more : List Made) × ComesTo (due_at c (text_in line)) line.answer made more) → IsCutShort c [] start next
+cut_by c first middle last heard made are written start start_is next next_is line one front (inl none) = record {
+  heard = heard;
+  made = made;
+  are = are;
+  front = subst (λ a. AppendsFront a next.held (answers_of heard)) (sym start_is) (subst (λ b. AppendsFront first b (answers_of heard)) (sym next_is)
+      (subst (AppendsFront first last) (ap (λ l. answers_of heard ++ l) none ∙ append-nil (answers_of heard)) (front_more first middle last (answers_of heard) line.answer written front)));
+}
+cut_by c first middle last heard made are written start start_is next next_is line one front (inr come) = record {
+  heard = line ∷ heard;
+  made = come.0;
+  are = (made, are, one, come.1);
+  front = subst (λ a. AppendsFront a next.held (answers_of (line ∷ heard))) (sym start_is) (subst (λ b. AppendsFront first b (answers_of (line ∷ heard))) (sym next_is)
+      (front_more first middle last (answers_of heard) line.answer written front));
+}
+
+-- Nothing was read.
+pub cut_at_once : (c : Config) (ahead : Option (List ℕ)) (reads writes : ℕ) (held : Option (List ℕ)) → IsCutShort c [] (talk ahead reads held writes) (talk ahead reads held writes)
+cut_at_once c ahead reads writes held = record { heard = []; made = []; are = refl; front = nothing_of held [] }
+
+pub lost_cut : (fault : StreamFault) (end : LifeEnd) (fact : Type 0) → end ≡ lost_by fault → fact → IfLost end fact
+lost_cut streams.Memory end fact is holds = subst (λ (e : LifeEnd). IfLost e fact) (sym is) holds
+lost_cut streams.Failed end fact is holds = subst (λ (e : LifeEnd). IfLost e fact) (sym is) holds
+
 -- ---- the lines so far, in a life that was started
 
 module _ {B : Type 0} {b : Ghosts B} (c : Config) (first : Generation) (found : ℕ → Content) (begun : BlocksState) where
@@ -118,6 +145,14 @@ module _ {B : Type 0} {b : Ghosts B} (c : Config) (first : Generation) (found : 
   comes made (due.Make step) line unit next_unit queue next_queue store next_store other (answer, is, makes) mid =
       ((step, answer) ∷ made, (answer, is, refl), makes first found begun made mid)
   comes made due.Power line unit next_unit queue next_queue store next_store other answers mid = absurd (other refl)
+
+  -- Of a line it is known what it comes to, or it is a `power`.
+  may_come : (what : Due) (line : List ℕ) (unit next_unit : UnitView) (queue next_queue : JobQueue) (store next_store : Store B b) (made : List Made) → Answers c what line unit next_unit queue next_queue store next_store
+      → (line ≡ []) ⊎ ((more : List Made) × ComesTo what line made more)
+  may_come due.Nothing line unit next_unit queue next_queue store next_store made answers = inr (made, (answers.0, refl))
+  may_come (due.Refuse refusal) line unit next_unit queue next_queue store next_store made answers = inr (made, (answers.0, refl))
+  may_come (due.Make step) line unit next_unit queue next_queue store next_store made (answer, is, makes) = inr ((step, answer) ∷ made, (answer, is, refl))
+  may_come due.Power line unit next_unit queue next_queue store next_store made answers = inl answers.0
 
   -- A `power` is not answered.
   stays : (made : List Made) (what : Due) (line : List ℕ) (unit next_unit : UnitView) (queue next_queue : JobQueue) (store next_store : Store B b) → what ≡ due.Power
@@ -183,6 +218,16 @@ module _ {B : Type 0} {b : Ghosts B} (c : Config) (first : Generation) (found : 
             then_takes start.ahead ahead next_ahead (bytes_of going.heard) (taken.whole ++ end_of ended) going.read taken.taken,
           );
         }
+
+    -- It was not answered whole.
+    pub lost_ends : (fault : StreamFault) → result ≡ Err fault → IsCutShort c [] start (talk next_ahead next_reads (held next_sink) (count next_sink))
+    lost_ends fault is = cut_by c start.held (held sink) (held next_sink) going.heard going.made going.are going.written start refl (talk next_ahead next_reads (held next_sink) (count next_sink)) refl heard (one_line ahead next_ahead ended kept taken not_ended)
+        (front_of held count sink next_sink answered.line result fault is answered.written) (by_answers answered.answers)
+      where
+        by_answers : Answers c (due_at c text) answered.line unit next_unit queue next_queue store next_store ⊎ LeavesAll result answered.line unit next_unit queue next_queue store next_store
+            → (answered.line ≡ []) ⊎ ((more : List Made) × ComesTo (due_at c (text_in heard)) answered.line going.made more)
+        by_answers (inl answers) = subst (λ (what : Due). (answered.line ≡ []) ⊎ ((more : List Made) × ComesTo what answered.line going.made more)) due_is (may_come (due_at c text) answered.line unit next_unit queue next_queue store next_store going.made answers)
+        by_answers (inr leaves) = inl leaves.1
 
   module _ (start now next : Talk) (unit : UnitView) (queue : JobQueue) (store : Store B b) (going : IsGoing start now unit queue store) (same : next.held ≡ now.held) where
     still : Appends start.held next.held (answers_of going.heard)
@@ -263,6 +308,12 @@ module _ (c : Config) where
   dark_comes made (due.Make step) line other is dark = ((step, Dark) ∷ made, (Dark, is, refl), (refl, dark))
   dark_comes made due.Power line other is dark = absurd (other refl)
 
+  dark_may_come : (made : List Made) (what : Due) (line : List ℕ) → line ≡ dark_line what → (line ≡ []) ⊎ ((more : List Made) × ComesTo what line made more)
+  dark_may_come made due.Nothing line is = inr (made, (is, refl))
+  dark_may_come made (due.Refuse refusal) line is = inr (made, (is, refl))
+  dark_may_come made (due.Make step) line is = inr ((step, Dark) ∷ made, (Dark, is, refl))
+  dark_may_come made due.Power line is = inl is
+
   dark_stays : (what : Due) (line : List ℕ) → what ≡ due.Power → line ≡ dark_line what → line ≡ []
   dark_stays what line power is = is ∙ ap dark_line power
 
@@ -312,6 +363,14 @@ module _ (c : Config) where
             then_takes start.ahead ahead next_ahead (bytes_of going.heard) (taken.whole ++ end_of ended) going.read taken.taken,
           );
         }
+
+    pub dark_lost_ends : (fault : StreamFault) → result ≡ Err fault → IsCutShort c [] start (talk next_ahead next_reads (held next_sink) (count next_sink))
+    dark_lost_ends fault is = cut_by c start.held (held sink) (held next_sink) going.heard going.made going.are going.written start refl (talk next_ahead next_reads (held next_sink) (count next_sink)) refl dark_heard (one_line ahead next_ahead ended kept taken not_ended)
+        (front_of held count sink next_sink answered.line result fault is answered.written) (by_line answered.is)
+      where
+        by_line : (answered.line ≡ dark_line (due_at c text)) ⊎ ((result ≡ Err streams.Memory) × (answered.line ≡ [])) → (answered.line ≡ []) ⊎ ((more : List Made) × ComesTo (due_at c (text_in dark_heard)) answered.line going.made more)
+        by_line (inl line_is) = subst (λ (what : Due). (answered.line ≡ []) ⊎ ((more : List Made) × ComesTo what answered.line going.made more)) dark_due_is (dark_may_come going.made (due_at c text) answered.line line_is)
+        by_line (inr leaves) = inl leaves.1
 
   module _ (start now next : Talk) (going : IsDarkGoing start now) (same : next.held ≡ now.held) where
     dark_still : Appends start.held next.held (answers_of going.heard)

@@ -165,6 +165,7 @@ module _ {B : Type 0} {b : Ghosts B} (c : Config) (number status : ℕ) (before 
     is = begins_so c before lived.boot lived.begun lived.is.is;
     whole = whole_by end lived.boot lived.begun lived.is lived.said;
     lost = lived.lost;
+    cut = lived.cut;
     later = lived.later;
   }
 

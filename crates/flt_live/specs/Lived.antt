@@ -7,6 +7,7 @@ use Rattle.flt_flash.specs.Blocks.{BlocksState}
 use Rattle.flt_flash.specs.Content.{Content}
 use Rattle.flt_flash.specs.declared.blocks.Blocks.{Ghosts}
 use Rattle.flt_io.specs.Fault.{Rose}
+use Rattle.flt_io.specs.Sink.{AppendsFront}
 use Rattle.flt_io.specs.declared.stream.StreamFault.{StreamFault}
 use Rattle.flt_io.specs.declared.stream.StreamFault.TheVariants as streams
 use Rattle.flt_queue.specs.declared.queue.JobQueue.{JobQueue}
@@ -38,6 +39,19 @@ UnlessLost Ended fact = fact
 UnlessLost Unread fact = fact
 UnlessLost Unwritten fact = Unit {0}
 UnlessLost Memory fact = Unit {0}
+
+-- What holds if a life ended for a sink that failed, or for memory.
+abbrev pub IfLost : LifeEnd → Type 0 → Type 0
+IfLost Unwritten fact = fact
+IfLost Memory fact = fact
+IfLost _ fact = Unit {0}
+
+-- Some front of this text, and behind it of the answers to lines that the life read, was written, and no more.
+pub record IsCutShort (c : Config) (text : List ℕ) (before after : Talk) : Type 0 where
+  pub heard : List Heard
+  pub made : List Made
+  pub are : AreHeard c heard made
+  pub front : AppendsFront before.held after.held (text ++ answers_of heard)
 
 -- A life ends for its sink only if the count of the sink's faults rose.
 abbrev pub IsLostFor : ℕ → ℕ → LifeEnd → Type 0
@@ -96,4 +110,5 @@ module _ {B : Type 0} {b : Ghosts B} where
     pub is : Begins c before boot begun
     pub said : UnlessLost end ((between : Talk) × Says (boot_line number boot) from between × GoesOnBy c boot before.value begun last unit between after end)
     pub lost : IsLostFor from.write_faults after.write_faults end
+    pub cut : IfLost end (IsCutShort c (boot_line number boot) from after)
     pub later : IsLater from after

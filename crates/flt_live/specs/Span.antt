@@ -20,7 +20,7 @@ use Rattle.flt_live.specs.declared.living.LifeEnd.TheVariants.{Power, Ended}
 use Rattle.flt_live.specs.Ahead.{ahead_with}
 use Rattle.flt_live.specs.Begun.{without_steps}
 use Rattle.flt_live.specs.Heard.{AreHeard, Heard, IsLater, Says, Talk, answers_of}
-use Rattle.flt_live.specs.Lived.{EndsBy, IsLostFor, TakesDarkLines, UnlessLost}
+use Rattle.flt_live.specs.Lived.{EndsBy, IfLost, IsCutShort, IsLostFor, TakesDarkLines, UnlessLost}
 use Rattle.flt_live.specs.Made.{AreAnswered, Made, journal_of}
 
 -- A life from end to end: its number, how it began, why it ended, and what it is in the words of a run; its blocks before the power-up,
@@ -85,11 +85,12 @@ pub record IsWhole (c : Config) (life : LifeSpan) (end : LifeEnd) : Type 0 where
   pub went_on : WentOn c life.boot life.view between life.after end
   pub is_life : IsLifeBegunBy c (moment_of life.before) (moment_of life.last) life.begun.device.faults life.view life.boot
 
--- A life: it is whole, unless the sink failed, or memory ran out.
+-- A life: it is whole, unless the sink failed, or memory ran out. Then a front of its lines was written.
 pub record IsSpan (c : Config) (life : LifeSpan) : Type 0 where
   pub is : BeginsSo c life.before life.begun life.boot
   pub whole : UnlessLost life.end (IsWhole c life life.end)
   pub lost : IsLostFor life.from.write_faults life.after.write_faults life.end
+  pub cut : IfLost life.end (IsCutShort c (boot_line life.number life.boot) life.from life.after)
   pub later : IsLater life.from life.after
 
 -- The blocks are those that were there.

@@ -14,8 +14,8 @@ ghost use Rattle.flt_report.specs.Boot.{boot_line};
 ghost use Rattle.flt_live.specs.Answered.{IsReady};
 ghost use Rattle.flt_live.specs.Begun.{Begins};
 ghost use Rattle.flt_live.specs.Ahead.{ahead_in};
-ghost use Rattle.flt_live.specs.Heard.{talk};
-ghost use Rattle.flt_live.specs.Lived.{IsLifeLived, IsLostFor, TakesDarkLines, TakesLines, UnlessLost, lost_by};
+ghost use Rattle.flt_live.specs.Heard.{IsLater, talk};
+ghost use Rattle.flt_live.specs.Lived.{IfLost, IsCutShort, IsLifeLived, IsLostFor, TakesDarkLines, TakesLines, UnlessLost, lost_by};
 
 use crate::ear::Ear;
 use crate::line::{Answered, answer_dark_line, answer_line};
@@ -102,6 +102,7 @@ fn take_lines<R: Wait, D: Blocks + Drop, S: Source, K: Sink>(
     requires same { config_of unit.old ≡ config.now }
     requires under_way { IsUnderWay config.now (state_of unit.old) }
     requires alive { IsAlive config.now store.old }
+    requires living { (first : Generation) × IsLiving config.now first [] [] (state_of unit.old) store.old }
     requires ready { IsReady room.old }
     ensures same { config_of unit.new ≡ config.now }
     ensures ready { IsReady room.new }
@@ -110,8 +111,10 @@ fn take_lines<R: Wait, D: Blocks + Drop, S: Source, K: Sink>(
         → UnlessLost result (TakesLines config.now first found (driver_of store.old) (talk (ahead_in (S.left source.old) ear.old) (S.faults source.old) (K.held sink.old) (K.faults sink.old))
         (talk (ahead_in (S.left source.new) ear.new) (S.faults source.new) (K.held sink.new) (K.faults sink.new)) (state_of unit.new) store.new result) }
     ensures cause { IsLostFor (K.faults sink.old) (K.faults sink.new) result }
-    ensures read_faults { S.faults source.old ≤ S.faults source.new }
-    ensures write_faults { K.faults sink.old ≤ K.faults sink.new }
+    ensures cut { IfLost result (IsCutShort config.now [] (talk (ahead_in (S.left source.old) ear.old) (S.faults source.old) (K.held sink.old) (K.faults sink.old))
+        (talk (ahead_in (S.left source.new) ear.new) (S.faults source.new) (K.held sink.new) (K.faults sink.new))) }
+    ensures later { IsLater (talk (ahead_in (S.left source.old) ear.old) (S.faults source.old) (K.held sink.old) (K.faults sink.old))
+        (talk (ahead_in (S.left source.new) ear.new) (S.faults source.new) (K.held sink.new) (K.faults sink.new)) }
 {
     let Ok(mut queue) = JobQueue::new(alloc, config.config().blocks) else {
         return LifeEnd::Memory;
@@ -147,8 +150,10 @@ fn take_dark_lines<R: Wait, S: Source, K: Sink>(
     ensures taken { UnlessLost result (TakesDarkLines config.now (talk (ahead_in (S.left source.old) ear.old) (S.faults source.old) (K.held sink.old) (K.faults sink.old))
         (talk (ahead_in (S.left source.new) ear.new) (S.faults source.new) (K.held sink.new) (K.faults sink.new)) result) }
     ensures cause { IsLostFor (K.faults sink.old) (K.faults sink.new) result }
-    ensures read_faults { S.faults source.old ≤ S.faults source.new }
-    ensures write_faults { K.faults sink.old ≤ K.faults sink.new }
+    ensures cut { IfLost result (IsCutShort config.now [] (talk (ahead_in (S.left source.old) ear.old) (S.faults source.old) (K.held sink.old) (K.faults sink.old))
+        (talk (ahead_in (S.left source.new) ear.new) (S.faults source.new) (K.held sink.new) (K.faults sink.new))) }
+    ensures later { IsLater (talk (ahead_in (S.left source.old) ear.old) (S.faults source.old) (K.held sink.old) (K.faults sink.old))
+        (talk (ahead_in (S.left source.new) ear.new) (S.faults source.new) (K.held sink.new) (K.faults sink.new)) }
 {
     for _ in rt.forever() {
         let ended = match ear.hear(rt, source) {

@@ -1,4 +1,4 @@
-use Rattle.std.proofs.Common.{[], refl, arith, subst}
+use Rattle.std.proofs.Common.{[], None, refl, arith, subst}
 use Rattle.flt_config.specs.declared.config.Config.{Config}
 use Rattle.flt_dcm.specs.Unit.{Stands}
 use Rattle.flt_dcm.specs.Whole.{state_of}
@@ -11,6 +11,7 @@ use Rattle.flt_live.specs.Ahead.{ahead_in}
 use Rattle.flt_live.specs.Heard.{Says, talk}
 use Rattle.flt_live.proofs.Boots.{begins, dark_goes, life_lived, life_lost, on_taken, refused_goes, started, started_goes}
 use Rattle.flt_live.proofs.Hearing.{failed_rose}
+use Rattle.flt_live.proofs.Writings.{front_of}
 use Rattle.flt_live.proofs.living.live.Goals as goal
 
 pub returns-in-Err-clause-lived : goal.returns-in-Err-clause-lived
@@ -23,7 +24,7 @@ returns-in-Err-clause-lived g c =
     life_lost c.args.config.now c.args.number (number_of c.status_by-status.result) (driver_of c.args.store.now) c.begin-boot.new.store c.begin-boot.new.store (state_of c.args.unit.now) from after
     c.lost_by-end.result boot c.status_by-status.ensures c.begin-boot.ensures c.in-Err.fault c.lost_by-end.ensures
     (failed_rose g.K.Sink.held g.K.Sink.faults c.args.sink.now c.say_boot.new.sink (boot_line c.args.number boot) c.say_boot.result c.in-Err.fault c.in-Err.is c.say_boot.ensures)
-    (omega arith) c.say_boot.ensures.later
+    (front_of g.K.Sink.held g.K.Sink.faults c.args.sink.now c.say_boot.new.sink (boot_line c.args.number boot) c.say_boot.result c.in-Err.fault c.in-Err.is c.say_boot.ensures) (omega arith) c.say_boot.ensures.later
 
 pub returns-in-Started-clause-lived : goal.returns-in-Started-clause-lived
 returns-in-Started-clause-lived g c =
@@ -46,7 +47,7 @@ returns-in-Started-clause-lived g c =
     c.say_boot.ensures.later
     (started_goes config before begun last unit between after c.take_lines-end.result boot c.in-Started.generation c.in-Started.start c.in-Started.is
     (c.take_lines-end.ensures.taken first before.value (begins config first (state_of c.boot.new.self) begun how.1 stands) c.begin-boot.ensures.applications))
-    c.take_lines-end.ensures.cause c.take_lines-end.ensures.read_faults c.take_lines-end.ensures.write_faults
+    c.take_lines-end.ensures.cause c.take_lines-end.ensures.cut c.take_lines-end.ensures.later.read c.take_lines-end.ensures.later.write
 
 pub returns-in-Dark-clause-lived : goal.returns-in-Dark-clause-lived
 returns-in-Dark-clause-lived g c =
@@ -62,7 +63,7 @@ returns-in-Dark-clause-lived g c =
     let says : Says (boot_line c.args.number boot) from between = record { written = on_taken _ c.say_boot.result _ c.in_default.is c.say_boot.ensures.ok; ahead = refl; read_faults = refl } in
     life_lived config c.args.number (number_of c.status_by-status.result) (driver_of c.args.store.now) begun begun unit from after c.take_dark_lines-end.result boot c.status_by-status.ensures c.begin-boot.ensures between says
     c.say_boot.ensures.later (dark_goes config (driver_of c.args.store.now) begun unit between after c.take_dark_lines-end.result boot c.in-Dark.is c.take_dark_lines-end.ensures.taken)
-    c.take_dark_lines-end.ensures.cause c.take_dark_lines-end.ensures.read_faults c.take_dark_lines-end.ensures.write_faults
+    c.take_dark_lines-end.ensures.cause c.take_dark_lines-end.ensures.cut c.take_dark_lines-end.ensures.later.read c.take_dark_lines-end.ensures.later.write
 
 pub returns-in-Refused-clause-lived : goal.returns-in-Refused-clause-lived
 returns-in-Refused-clause-lived g c =
@@ -76,4 +77,13 @@ returns-in-Refused-clause-lived g c =
     let between = talk ahead reads (g.K.Sink.held c.say_boot.new.sink) (g.K.Sink.faults c.say_boot.new.sink) in
     let says : Says (boot_line c.args.number boot) from between = record { written = on_taken _ c.say_boot.result _ c.in_default.is c.say_boot.ensures.ok; ahead = refl; read_faults = refl } in
     life_lived config c.args.number (number_of c.status_by-status.result) (driver_of c.args.store.now) begun begun unit from between Ended boot c.status_by-status.ensures c.begin-boot.ensures between says
-    c.say_boot.ensures.later (refused_goes config (driver_of c.args.store.now) begun unit between between Ended boot c.in-Refused.field-0 c.in-Refused.is refl refl) tt (omega arith) (omega arith)
+    c.say_boot.ensures.later (refused_goes config (driver_of c.args.store.now) begun unit between between Ended boot c.in-Refused.field-0 c.in-Refused.is refl refl) tt tt (omega arith) (omega arith)
+
+pub take_lines-end-requires-clause-living : goal.take_lines-end-requires-clause-living
+take_lines-end-requires-clause-living g c =
+    let config = c.args.config.now in
+    let begun = c.begin-boot.new.store in
+    let first = numbered c.in-Started.generation c.in-Started.start in
+    let how = started config (driver_of c.args.store.now) begun begun (state_of c.args.unit.now) (talk None 0 None 0) (talk None 0 None 0) Ended c.begin-boot.result c.in-Started.generation c.in-Started.start c.in-Started.is c.begin-boot.ensures in
+    let stands = subst (λ (k : Config). Stands (start_from k c.in-Started.start) [] (state_of c.boot.new.self)) c.requires.same c.boot.ensures.stands in
+    (first, begins config first (state_of c.boot.new.self) begun how.1 stands)

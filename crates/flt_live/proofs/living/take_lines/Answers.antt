@@ -1,4 +1,4 @@
-use Rattle.std.proofs.Common.{◌≡◌, ◌∙◌, [], Ok, refl, ap, arith, subst, rules}
+use Rattle.std.proofs.Common.{◌≡◌, ◌∙◌, [], Ok, Err, refl, ap, arith, subst, rules}
 use Rattle.std.specs.Prelude.{◌≢◌}
 use Rattle.flt_config.specs.declared.config.Config.{Config}
 use Rattle.flt_queue.specs.Stands.{Stands}
@@ -9,7 +9,7 @@ use Rattle.flt_live.specs.declared.reader.Line.{Line}
 use Rattle.flt_live.specs.declared.reader.Line.TheVariants.{Ended}
 use Rattle.flt_live.specs.Ahead.{TakesLine, ahead_in, kept_in}
 use Rattle.flt_live.specs.Heard.{talk}
-use Rattle.flt_live.proofs.Hearing.{going_first, going_more, power_ends, end_ends, unread_ends, rose_later}
+use Rattle.flt_live.proofs.Hearing.{lost_anyway, lost_cut, lost_ends, lost_for, going_first, going_more, power_ends, end_ends, unread_ends, rose_later}
 use Rattle.flt_live.proofs.living.take_lines.Goals as goal
 
 pub loop-init : goal.loop-init
@@ -78,6 +78,30 @@ returns-in-Ok-Power g c =
           (state_of c.loop.unit) (state_of c.answer_line.new.unit) c.loop.queue c.answer_line.new.queue c.loop.store c.answer_line.new.store
           c.in-Ok-hear.ended (kept_in c.hear.new.self) c.text-text.result.now c.in-Ok-hear.ensures.line other c.text-text.ensures (was.going first found living same) c.answer_line.result answered is;
       cause = tt;
-      read_faults = omega (arith, was.later_read, c.in-Ok-hear.ensures.cause.later);
-      write_faults = omega (arith, was.later_write, answered.written.later);
+      cut = tt;
+      later = record { read = omega (arith, was.later_read, c.in-Ok-hear.ensures.cause.later); write = omega (arith, was.later_write, answered.written.later) };
+    }
+
+pub returns-in-Err-answer_line : goal.returns-in-Err-answer_line
+returns-in-Err-answer_line g c =
+    let other : c.in-Ok-hear.ended ≢ Ended = search rules in
+    let was = c.loop.invariant in
+    let answered = c.answer_line.ensures.answered in
+    let living = c.requires.living in
+    let start = talk (ahead_in (g.S.Source.left c.args.source.now) c.args.ear.now) (g.S.Source.faults c.args.source.now) (g.K.Sink.held c.args.sink.now) (g.K.Sink.faults c.args.sink.now) in
+    let ahead = ahead_in (g.S.Source.left c.loop.source) c.loop.ear in
+    let next_ahead = ahead_in (g.S.Source.left c.hear.new.source) c.hear.new.self in
+    let values = (driver_of c.args.store.now).value in
+    record {
+      same = c.answer_line.ensures.same;
+      ready = c.answer_line.ensures.ready;
+      taken = λ first found lives same. lost_anyway c.in-Err-answer_line.fault c.lost_by.result _ c.lost_by.ensures;
+      cause = lost_for (g.K.Sink.faults c.args.sink.now) (g.K.Sink.faults c.loop.sink) (g.K.Sink.faults c.answer_line.new.sink) c.in-Err-answer_line.fault c.lost_by.result c.lost_by.ensures was.later_write
+          (λ failed. answered.written.cause (c.in-Err-answer_line.is ∙ ap Err failed));
+      cut = lost_cut c.in-Err-answer_line.fault c.lost_by.result _ c.lost_by.ensures
+          (lost_ends c.args.config.now living.0 values (driver_of c.args.store.now) g.K.Sink.held g.K.Sink.faults c.loop.sink c.answer_line.new.sink start ahead next_ahead (g.S.Source.faults c.loop.source) (g.S.Source.faults c.hear.new.source)
+          (state_of c.loop.unit) (state_of c.answer_line.new.unit) c.loop.queue c.answer_line.new.queue c.loop.store c.answer_line.new.store
+          c.in-Ok-hear.ended (kept_in c.hear.new.self) c.text-text.result.now c.in-Ok-hear.ensures.line other c.text-text.ensures (was.going living.0 values living.1 (λ block below. refl)) c.answer_line.result answered
+          c.in-Err-answer_line.fault c.in-Err-answer_line.is);
+      later = record { read = omega (arith, was.later_read, c.in-Ok-hear.ensures.cause.later); write = omega (arith, was.later_write, answered.written.later) };
     }
