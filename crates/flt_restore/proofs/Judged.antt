@@ -53,15 +53,6 @@ only_itself missing has = absurd has
 only_itself invalid has = absurd has
 only_itself (bytes raw) has = refl
 
--- What counts as the commit does so from an earlier state on.
-pub source_from : (start before after : BlocksState) (content : Content) (copy : ℕ) → Reads start before → IsSource before after content copy → IsSource start after content copy
-source_from start before after content copy reads source = elim source [
-  | inl either ↦ inl (
-      subst (λ (value : ℕ → Content). (content ≡ either_copy (value first_commit) (value second_commit)) × IsOfCopy (value first_commit) (value second_commit) content copy) (same_values start before reads) either
-      )
-  | inr second ↦ inr (second.0 ∙ reads.values second_commit, second.1, second.2, omega (arith, reads.follows.counts, second.3))
-]
-
 -- ---- the answers, from the state at which the commit was read
 module _ (c : Config) (start before after : BlocksState) (values : before.value ≡ start.value) (content : Content) (copy : ℕ) (source : IsSource start before content copy)
     (counts : HasRisenBy 0 before.device.faults after.device.faults) where
