@@ -59,6 +59,7 @@ source_from start before after content copy so_far same source = elim source [
 pub state_unread_from : (c : Config) (before middle after : BlocksState) → Follows before middle → SameValues before middle → IsStateUnread c middle after → IsStateUnread c before after
 state_unread_from c before middle after so_far same unread = record {
   middle = unread.middle;
+  earlier = more_calls before middle unread.middle so_far unread.earlier;
   content = unread.content;
   copy = unread.copy;
   source = source_from before middle unread.middle unread.content unread.copy so_far same unread.source;

@@ -12,9 +12,7 @@ use Rattle.flt_store_model.specs.Holding.{Generation, Fault, held_by, either_cop
 use Rattle.flt_restore.specs.declared.commit.CommitCopy.{CommitCopy}
 use Rattle.flt_restore.specs.declared.fault.StartFault.{StartFault}
 use Rattle.flt_restore.specs.declared.fault.StartFault.TheVariants.{Flash, Damaged, OtherConfig, SequenceSpent}
-use Rattle.flt_restore.specs.Found.{Reads}
 use Rattle.flt_restore.specs.Judging.{Tells, IsReadFrom, IsOfCopy, IsSource}
-use Rattle.flt_restore.proofs.Telling.{same_values}
 use Rattle.flt_restore.specs.Restored.{HasBytes, IsJudged, generation, IsCopy, IsCommitOf, IsRestored, Refuses}
 
 -- ---- the copy that was read

@@ -46,6 +46,7 @@ pub record IsNamedUnread (c : Config) (content : Content) (before after : Blocks
 -- The commit that counts was read, and then a block that it names could not be read.
 pub record IsStateUnread (c : Config) (before after : BlocksState) : Type 0 where
   pub middle : BlocksState
+  pub earlier : Follows before middle
   pub content : Content
   pub copy : ℕ
   pub source : IsSource before middle content copy

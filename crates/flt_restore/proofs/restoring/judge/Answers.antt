@@ -49,6 +49,7 @@ returns-in_err-commit-clause-unread g c =
     let content = content_of c.in_ok-source.source.held in
     inr (inr (record {
       middle = before;
+      earlier = (more_reads (driver_of c.args.nvm.now) (driver_of c.read_content.new.nvm) before c.in_ok-mark.ensures.reads c.in_ok-source.ensures.reads).follows;
       content = content;
       copy = c.in_ok-source.source.copy;
       source = source_from (driver_of c.args.nvm.now) (driver_of c.read_content.new.nvm) before content c.in_ok-source.source.copy c.in_ok-mark.ensures.reads.follows c.in_ok-mark.ensures.reads.values c.in_ok-source.ensures.source;
