@@ -2,7 +2,7 @@
 use Rattle.std.specs.Prelude.{◌≡◌, ◌≤◌, ◌+◌, ◌↔◌, ◌⊎◌, ℕ, true, false, [], ◌∷◌, replicate, map, Option, Some, None, Ok, Err}
 use Rattle.flt_flash.specs.Content.{bytes}
 use Rattle.flt_flash.specs.Blocks.{BlocksState}
-use Rattle.flt_flash.specs.Calls.{CostsAtMost, ReadCosts, switch_cost}
+use Rattle.flt_flash.specs.Calls.{CostsAtMost, MountCosts, ReadCosts, switch_cost}
 use Rattle.flt_fee.specs.Costs.{ErasesAtMost, StoreCosts}
 use Rattle.flt_fee.specs.Wear.{IsEven}
 
@@ -13,6 +13,7 @@ counting operations erases = record {
   is_stale = false;
   has_mounted = true;
   calls = 0;
+  last_failed = None;
   value = λ block. bytes (replicate 96 0);
   damage = None;
   room = Some 10;
@@ -58,6 +59,11 @@ pub record SwitchCosts : Type 0 where
   pub without : map (switch_cost None) (0 ∷ 1 ∷ 32 ∷ 33 ∷ 96 ∷ 97 ∷ 128 ∷ []) ≡ 2 ∷ 3 ∷ 3 ∷ 4 ∷ 5 ∷ 6 ∷ 6 ∷ []
   pub with_switch : map (switch_cost (Some 10)) (0 ∷ 96 ∷ 128 ∷ []) ≡ 24 ∷ 24 ∷ 24 ∷ []
   pub larger_room : switch_cost (Some 62) 96 ≡ 128
+
+-- A mount takes 15 operations at most where ten pages are left for records: four for the gates, and eleven for the log.
+pub record MountsOfDrivers : Type 0 where
+  pub within : MountCosts (made 100 0) (made 115 0)
+  pub beyond : MountCosts (made 100 0) (made 116 0) → ⊥
 
 -- A read of 96 bytes takes three operations at most.
 pub record ReadsOfBytes : Type 0 where

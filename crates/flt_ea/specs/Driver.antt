@@ -4,13 +4,14 @@ use Rattle.flt_flash.specs.State.{FlashState}
 use Rattle.flt_flash.specs.Blocks.{BlocksState, device_of}
 use Rattle.flt_ea.specs.Image.{value_in, damage_in, is_spent_in, is_stuck_in}
 
--- The driver by what it keeps and by its device, before it counts a call.
+-- The driver by what it keeps and by its device, before a call is made of it.
 abbrev pub state_by : List ℕ → Bool → Bool → FlashState → BlocksState
 state_by numbers is_stale has_mounted device = record {
   numbers = numbers;
   is_stale = is_stale;
   has_mounted = has_mounted;
   calls = 0;
+  last_failed = None;
   value = value_in numbers device.image;
   damage = damage_in numbers device.image;
   room = None;

@@ -1,4 +1,4 @@
--- The driver over an EEPROM as the layers above see it, and but for its count of calls.
+-- The driver over an EEPROM as the layers above see it, and but for what it keeps of its calls.
 use Rattle.flt_flash.specs.State.{FlashState}
 use Rattle.flt_flash.specs.Blocks.{BlocksState, recounted}
 use Rattle.flt_ea.specs.Driver.{state_by}
@@ -8,4 +8,4 @@ abbrev pub uncounted_of : {E : Type 0} {g : _} → (E → FlashState) → Ea E g
 uncounted_of state ea = state_by ea.numbers ea.is_stale ea.has_mounted (state ea.device)
 
 abbrev pub state_of : {E : Type 0} {g : _} → (E → FlashState) → Ea E g → BlocksState
-state_of state ea = recounted ea.calls (uncounted_of state ea)
+state_of state ea = recounted ea.tally.calls ea.tally.last_failed (uncounted_of state ea)

@@ -3,7 +3,7 @@ ghost use Rattle.std.specs.Prelude.{◌≡◌, ◌≢◌, ◌+◌, ◌<◌, ◌�
 ghost use Rattle.std.specs.List.{AllPairs};
 ghost use Rattle.flt_flash.specs.Blocks.{byte_pages, device_of, record_pages};
 ghost use Rattle.flt_flash.specs.Content.{invalid, bytes as holding, size_of};
-ghost use Rattle.flt_flash.specs.Calls.{Calls, CountsCall, Changes, Costs, ReadCosts, NeverFull, ReadsContent, SameImage, SameSpent, SameValues, Settles};
+ghost use Rattle.flt_flash.specs.Calls.{Calls, CountsCallOf, CountsMount, Changes, Costs, MountCosts, ReadCosts, NeverFull, ReadsAlone, ReadsContent, SameImage, SameSpent, SameValues, Settles};
 ghost use Rattle.flt_flash.specs.declared.blocks.BlockFault.TheVariants.{Flash};
 ghost use Rattle.flt_code.specs.Word.{is_length};
 ghost use Rattle.flt_pages.specs.LogHolds.{asked_of};
@@ -15,7 +15,7 @@ use crate::place::{is_last, next_place, next_sequence, some_is_last};
 use crate::record::{read_bytes, write_record};
 use crate::scan::scan;
 use crate::{Eeprom, Gate, Held};
-use flt_flash::{Arm, BlockFault, Blocks, Found, Refused};
+use flt_flash::{Arm, BlockFault, Blocks, Found, Refused, Tally};
 use flt_pages::Numbers;
 use std::alloc::{AllocError, Global};
 
@@ -60,7 +60,7 @@ pub struct Ea<E: Eeprom> {
     table: Vec<Option<Held>>,
     is_stale: bool,
     has_mounted: bool,
-    calls: u64,
+    tally: Tally,
     ghost within: { 10 * length numbers ≤ (E.state device).pages },
     ghost size: { length table.items ≡ length numbers },
     ghost distinct: { AllPairs (λ a b. a ≢ b) numbers },
@@ -87,7 +87,7 @@ impl<E: Eeprom> Ea<E> {
                 table,
                 is_stale: true,
                 has_mounted: false,
-                calls: 0,
+                tally: Tally::none(),
             }),
         }
     }
@@ -103,10 +103,11 @@ impl<E: Eeprom> Ea<E> {
     fn look(&mut self) -> Result<(), BlockFault>
         ensures values { SameValues (uncounted_of E.state self.old) (uncounted_of E.state self.new) }
         ensures calls { Calls (uncounted_of E.state self.old) (uncounted_of E.state self.new) result }
-        ensures count { self.new.calls ≡ self.old.calls }
+        ensures count { self.new.tally ≡ self.old.tally }
         ensures never_full { NeverFull result }
         ensures stale { Settles result (uncounted_of E.state self.new) }
         ensures image { (E.state self.new.device).image ≡ (E.state self.old.device).image }
+        ensures operations { (E.state self.new.device).operations ≤ (E.state self.old.device).operations + 2 * length (uncounted_of E.state self.old).numbers }
     {
         self.is_stale = true;
         scan(&mut self.device, &self.numbers, &mut self.table)?;
@@ -119,7 +120,7 @@ impl<E: Eeprom> Ea<E> {
     fn settle(&mut self) -> Result<(), BlockFault>
         ensures values { SameValues (uncounted_of E.state self.old) (uncounted_of E.state self.new) }
         ensures calls { Calls (uncounted_of E.state self.old) (uncounted_of E.state self.new) result }
-        ensures count { self.new.calls ≡ self.old.calls }
+        ensures count { self.new.tally ≡ self.old.tally }
         ensures never_full { NeverFull result }
         ensures stale { Settles result (uncounted_of E.state self.new) }
         ensures image { (E.state self.new.device).image ≡ (E.state self.old.device).image }
@@ -146,7 +147,7 @@ impl<E: Eeprom> Ea<E> {
         requires length { is_length valid (length bytes.now) ≡ true }
         ensures changes { Changes (uncounted_of E.state self.old) (uncounted_of E.state self.new) block (asked_of valid bytes.now) (length bytes.now) result }
         ensures calls { Calls (uncounted_of E.state self.old) (uncounted_of E.state self.new) result }
-        ensures count { self.new.calls ≡ self.old.calls }
+        ensures count { self.new.tally ≡ self.old.tally }
         ensures stale { Settles result (uncounted_of E.state self.new) }
         ensures answers { AnswersBy (is_stuck_in (uncounted_of E.state self.old).numbers (E.state self.old.device).image block) result }
         ensures spends { (IsErrOf result Flash → ⊥)
@@ -178,7 +179,7 @@ impl<E: Eeprom> Ea<E> {
         requires length { is_length valid (length bytes.now) ≡ true }
         ensures changes { Changes (uncounted_of E.state self.old) (uncounted_of E.state self.new) block (asked_of valid bytes.now) (length bytes.now) result }
         ensures calls { Calls (uncounted_of E.state self.old) (uncounted_of E.state self.new) result }
-        ensures count { self.new.calls ≡ self.old.calls }
+        ensures count { self.new.tally ≡ self.old.tally }
         ensures stale { Settles result (uncounted_of E.state self.new) }
         ensures answers { AnswersBy (is_stuck_in (uncounted_of E.state self.old).numbers (E.state self.old.device).image block) result }
         ensures costs { Costs (uncounted_of E.state self.old) (uncounted_of E.state self.new) (length bytes.now) }
@@ -194,7 +195,7 @@ impl<E: Eeprom> Ea<E> {
         ensures found { IfOk result (λ found. ReadsContent ((uncounted_of E.state self.old).value block) found out.old out.new) }
         ensures nothing { OnErr result (out.new ≡ out.old) }
         ensures calls { Calls (uncounted_of E.state self.old) (uncounted_of E.state self.new) result }
-        ensures count { self.new.calls ≡ self.old.calls }
+        ensures count { self.new.tally ≡ self.old.tally }
         ensures never_full { NeverFull result }
         ensures stale { IsFalse (uncounted_of E.state self.new).is_stale }
         ensures image { SameImage (uncounted_of E.state self.old) (uncounted_of E.state self.new) }
@@ -211,6 +212,19 @@ impl<E: Eeprom> Ea<E> {
                 Ok(Found::Bytes(held.gate.length as usize))
             }
         }
+    }
+
+    /// Reads a block.
+    fn get(&mut self, block: u16, out: &mut [u8; 128]) -> Result<Found, BlockFault>
+        requires { Contains (uncounted_of E.state self.old).numbers block }
+        ensures found { IfOk result (λ found. ReadsContent ((uncounted_of E.state self.old).value block) found out.old out.new) }
+        ensures nothing { OnErr result (out.new ≡ out.old) }
+        ensures reads { ReadsAlone (uncounted_of E.state self.old) (uncounted_of E.state self.new) result }
+        ensures count { self.new.tally ≡ self.old.tally }
+        ensures costs { ReadCosts (uncounted_of E.state self.old) (uncounted_of E.state self.new) block }
+    {
+        self.settle()?;
+        self.find(block, out)
     }
 }
 
@@ -231,15 +245,16 @@ impl<E: Eeprom> Blocks for Ea<E> {
     fn mount(&mut self) -> Result<(), BlockFault>
         ensures values { SameValues (state_of E.state self.old) (state_of E.state self.new) }
         ensures calls { Calls (state_of E.state self.old) (state_of E.state self.new) result }
-        ensures once { CountsCall (state_of E.state self.old) (state_of E.state self.new) }
+        ensures once { CountsMount (state_of E.state self.old) (state_of E.state self.new) }
         ensures never_full { NeverFull result }
         ensures stale { Settles result (state_of E.state self.new) }
         ensures spent { SameSpent (state_of E.state self.old) (state_of E.state self.new) }
+        ensures costs { MountCosts (state_of E.state self.old) (state_of E.state self.new) }
 
         // It writes nothing.
         ensures image { SameImage (state_of E.state self.old) (state_of E.state self.new) }
     {
-        self.calls = self.calls.saturating_add(1);
+        self.tally.count();
         self.look()
     }
 
@@ -249,21 +264,24 @@ impl<E: Eeprom> Blocks for Ea<E> {
         requires most { length bytes.now ≤ 128 }
         ensures changes { Changes (state_of E.state self.old) (state_of E.state self.new) block (holding bytes.now) (length bytes.now) result }
         ensures calls { Calls (state_of E.state self.old) (state_of E.state self.new) result }
-        ensures once { CountsCall (state_of E.state self.old) (state_of E.state self.new) }
+        ensures once { CountsCallOf block (state_of E.state self.old) (state_of E.state self.new) result }
         ensures stale { Settles result (state_of E.state self.new) }
         ensures costs { Costs (state_of E.state self.old) (state_of E.state self.new) (length bytes.now) }
 
         // It is refused exactly where its block has no sequence number left.
         ensures answers { AnswersBy (is_stuck_in (state_of E.state self.old).numbers (E.state self.old.device).image block) result }
     {
-        self.calls = self.calls.saturating_add(1);
-        self.put(block, bytes, true)
+        self.tally.count();
+        let answer = self.put(block, bytes, true);
+        self.tally.note(block, &answer);
+        answer
     }
 
     fn read(&mut self, block: u16, out: &mut [u8; 128]) -> Result<Found, BlockFault> {
-        self.calls = self.calls.saturating_add(1);
-        self.settle()?;
-        self.find(block, out)
+        self.tally.count();
+        let answer = self.get(block, out);
+        self.tally.note(block, &answer);
+        answer
     }
 
     fn look_up(&self, block: u16) -> Found {
@@ -278,15 +296,17 @@ impl<E: Eeprom> Blocks for Ea<E> {
         requires { Contains (state_of E.state self.old).numbers block }
         ensures changes { Changes (state_of E.state self.old) (state_of E.state self.new) block invalid 0 result }
         ensures calls { Calls (state_of E.state self.old) (state_of E.state self.new) result }
-        ensures once { CountsCall (state_of E.state self.old) (state_of E.state self.new) }
+        ensures once { CountsCallOf block (state_of E.state self.old) (state_of E.state self.new) result }
         ensures stale { Settles result (state_of E.state self.new) }
         ensures costs { Costs (state_of E.state self.old) (state_of E.state self.new) 0 }
 
         // It is refused exactly where its block has no sequence number left.
         ensures answers { AnswersBy (is_stuck_in (state_of E.state self.old).numbers (E.state self.old.device).image block) result }
     {
-        self.calls = self.calls.saturating_add(1);
-        self.put(block, &[], false)
+        self.tally.count();
+        let answer = self.put(block, &[], false);
+        self.tally.note(block, &answer);
+        answer
     }
 
     fn spent(&self) -> bool {

@@ -19,6 +19,7 @@ pub(crate) fn look<E: Eeprom>(
 ) -> Result<Result<Option<Held>, u8>, FlashFailed>
     requires { 10 * position + 10 ≤ (E.state device.old).pages }
     ensures reads { OnlyReads (E.state device.old) (E.state device.new) }
+    ensures operations { (E.state device.new).operations ≤ (E.state device.old).operations + 2 }
     ensures failed { OnErr result (HasRisenBy 1 (E.state device.old).faults (E.state device.new).faults) }
     ensures judged { IfOk result (λ found. found ≡ judged number
         (gate_at (sector_at (E.state device.old).image 0) position 0) (gate_at (sector_at (E.state device.old).image 0) position 1)) }
@@ -39,6 +40,7 @@ pub(crate) fn scan<E: Eeprom>(
     requires units { 10 * length numbers.now ≤ (E.state device.old).pages }
     requires table { length table.old ≡ length numbers.now }
     ensures reads { OnlyReads (E.state device.old) (E.state device.new) }
+    ensures operations { (E.state device.new).operations ≤ (E.state device.old).operations + 2 * length numbers.now }
     ensures size { length table.new ≡ length table.old }
     ensures sound { OnOk result (damage_in numbers.now (E.state device.old).image ≡ None) }
     ensures table { OnOk result (IsTable (length numbers.now) (sector_at (E.state device.old).image 0) table.new) }

@@ -19,13 +19,14 @@ is_past used numbers image size (Ok (Some at)) = not (nat_le ((log used numbers 
 is_past used numbers image size (Ok None) = false
 is_past used numbers image size (Err place) = false
 
--- The driver by what it keeps and by its flash, before it counts a call.
+-- The driver by what it keeps and by its flash, before a call is made of it.
 abbrev pub state_by : ℕ → List ℕ → Bool → Bool → FlashState → BlocksState
 state_by used numbers is_stale has_mounted flash = record {
   numbers = numbers;
   is_stale = is_stale;
   has_mounted = has_mounted;
   calls = 0;
+  last_failed = None;
   value = block_value used numbers flash.image;
   damage = first_fault used numbers flash.image;
   room = Some (used - 2);
@@ -34,10 +35,10 @@ state_by used numbers is_stale has_mounted flash = record {
   device = device_of flash;
 }
 
--- The driver but for its count of calls.
+-- The driver but for what it keeps of its calls.
 abbrev pub uncounted_of : {F : Type 0} {g : _} → (F → FlashState) → Fee F g → BlocksState
 uncounted_of state fee = state_by fee.used fee.numbers fee.is_stale fee.has_mounted (state fee.flash)
 
 -- The driver as the layers above see it.
 abbrev pub state_of : {F : Type 0} {g : _} → (F → FlashState) → Fee F g → BlocksState
-state_of state fee = recounted fee.calls (uncounted_of state fee)
+state_of state fee = recounted fee.tally.calls fee.tally.last_failed (uncounted_of state fee)

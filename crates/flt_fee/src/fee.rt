@@ -6,7 +6,7 @@ ghost use Rattle.std.proofs.Props.{props};
 ghost use Rattle.flt_flash.specs.Content.{invalid, bytes as holding};
 ghost use Rattle.flt_flash.specs.Image.{sector_at};
 ghost use Rattle.flt_flash.specs.Blocks.{byte_pages, device_of, live_pages, record_pages, IsFull};
-ghost use Rattle.flt_flash.specs.Calls.{Calls, CountsCall, Changes, Costs, ReadsContent, NoFault, NeverFull, ReadCosts, SameImage, SameSpent, SameValues, Settles};
+ghost use Rattle.flt_flash.specs.Calls.{Calls, CountsCallOf, CountsMount, Changes, Costs, MountCosts, ReadsAlone, ReadsContent, NoFault, NeverFull, ReadCosts, SameSpent, SameValues, Settles};
 ghost use Rattle.flt_flash.specs.declared.blocks.BlockFault.TheVariants.{Full, SequenceSpent};
 ghost use Rattle.flt_code.specs.Word.{is_length};
 ghost use Rattle.flt_sector_model.specs.Blocks.{current, block_value};
@@ -18,7 +18,7 @@ ghost use Rattle.flt_fee.specs.Mounted.{IsMounted};
 ghost use Rattle.flt_fee.specs.Refusal.{refusal, AnswersBy, KeepsStuck};
 ghost use Rattle.flt_fee.specs.Wear.{StaysEven, UnlessFlash};
 
-use flt_flash::{Arm, Bench, BlockFault, Blocks, Flash, Found, Refused};
+use flt_flash::{Arm, Bench, BlockFault, Blocks, Flash, Found, Refused, Tally};
 use flt_pages::{
     Numbers, RecordPlace, append_record, byte_pages, current_sector, find_places, forget,
     live_pages, note, place_of, read_record, set_up_flash, switch_sectors,
@@ -51,8 +51,8 @@ fn tables(
 
 /// Blocks of 1 to 128 bytes in the records of two sectors, of which it uses the first `used` pages each.
 ///
-/// It keeps the current sector, its sequence number, the page where its log ends, the place of each block's current record, and a
-/// count of its calls. A mount looks at the log once, and no other call looks at it.
+/// It keeps the current sector, its sequence number, the page where its log ends, the place of each block's current record, a
+/// count of its calls, and the block of the last one that the flash failed. A mount looks at the log once, and no other call looks at it.
 /// Its room is `used - 2` pages. It is spent where the sequence number is 2^32 - 1, and a record is stuck where it is spent
 /// and the record does not fit behind the log.
 #[derive(Drop)]
@@ -62,7 +62,7 @@ pub struct Fee<F: Flash> {
     numbers: Numbers,
     is_stale: bool,
     has_mounted: bool,
-    calls: u64,
+    tally: Tally,
     sector: u8,
     sequence: u32,
     end: u16,
@@ -89,7 +89,7 @@ impl<F: Flash> Fee<F> {
         requires room { self.old.end + 2 + byte_pages (length bytes.now) ≤ self.old.used }
         ensures changes { Changes (uncounted_of F.state self.old) (uncounted_of F.state self.new) block (asked_of valid bytes.now) (length bytes.now) result }
         ensures calls { Calls (uncounted_of F.state self.old) (uncounted_of F.state self.new) result }
-        ensures count { self.new.calls ≡ self.old.calls }
+        ensures count { self.new.tally ≡ self.old.tally }
         ensures never_full { NeverFull result }
         ensures stale { Settles result (uncounted_of F.state self.new) }
         ensures spends { OnOk result (SpendsAtMost (record_pages (length bytes.now)) (F.state self.old.flash) (F.state self.new.flash)) }
@@ -116,10 +116,11 @@ impl<F: Flash> Fee<F> {
         ensures values { SameValues (uncounted_of F.state self.old) (uncounted_of F.state self.new) }
         ensures spent { SameSpent (uncounted_of F.state self.old) (uncounted_of F.state self.new) }
         ensures calls { Calls (uncounted_of F.state self.old) (uncounted_of F.state self.new) result }
-        ensures count { self.new.calls ≡ self.old.calls }
+        ensures count { self.new.tally ≡ self.old.tally }
         ensures never_full { NeverFull result }
         ensures stale { Settles result (uncounted_of F.state self.new) }
         ensures stuck { KeepsStuck (uncounted_of F.state self.old) (uncounted_of F.state self.new) result }
+        ensures operations { (F.state self.new.flash).operations ≤ (F.state self.old.flash).operations + 3 }
         ensures even { UnlessFlash result (StaysEven self.old.used (F.state self.old.flash) (F.state self.new.flash)) }
     {
         self.is_stale = true;
@@ -138,10 +139,11 @@ impl<F: Flash> Fee<F> {
         ensures values { SameValues (uncounted_of F.state self.old) (uncounted_of F.state self.new) }
         ensures spent { SameSpent (uncounted_of F.state self.old) (uncounted_of F.state self.new) }
         ensures calls { Calls (uncounted_of F.state self.old) (uncounted_of F.state self.new) result }
-        ensures count { self.new.calls ≡ self.old.calls }
+        ensures count { self.new.tally ≡ self.old.tally }
         ensures never_full { NeverFull result }
         ensures stale { Settles result (uncounted_of F.state self.new) }
         ensures stuck { KeepsStuck (uncounted_of F.state self.old) (uncounted_of F.state self.new) result }
+        ensures operations { (F.state self.new.flash).operations ≤ (F.state self.old.flash).operations + (self.old.used + 3) }
         ensures even { UnlessFlash result (StaysEven self.old.used (F.state self.old.flash) (F.state self.new.flash)) }
     {
         self.is_stale = true;
@@ -170,7 +172,7 @@ impl<F: Flash> Fee<F> {
         ensures values { SameValues (uncounted_of F.state self.old) (uncounted_of F.state self.new) }
         ensures spent { SameSpent (uncounted_of F.state self.old) (uncounted_of F.state self.new) }
         ensures calls { Calls (uncounted_of F.state self.old) (uncounted_of F.state self.new) result }
-        ensures count { self.new.calls ≡ self.old.calls }
+        ensures count { self.new.tally ≡ self.old.tally }
         ensures never_full { NeverFull result }
         ensures stale { Settles result (uncounted_of F.state self.new) }
         ensures stuck { KeepsStuck (uncounted_of F.state self.old) (uncounted_of F.state self.new) result }
@@ -199,7 +201,7 @@ impl<F: Flash> Fee<F> {
             (F.state self.new.flash)) }
         ensures values { SameValues (uncounted_of F.state self.old) (uncounted_of F.state self.new) }
         ensures calls { Calls (uncounted_of F.state self.old) (uncounted_of F.state self.new) result }
-        ensures count { self.new.calls ≡ self.old.calls }
+        ensures count { self.new.tally ≡ self.old.tally }
         ensures never_full { NeverFull result }
         ensures stale { Settles result (uncounted_of F.state self.new) }
         ensures even { UnlessFlash result (StaysEven self.old.used (F.state self.old.flash) (F.state self.new.flash)) }
@@ -233,7 +235,7 @@ impl<F: Flash> Fee<F> {
         ensures spent { IsErrOf result SequenceSpent → IsTrue ((uncounted_of F.state self.new).is_stuck block size) }
         ensures values { SameValues (uncounted_of F.state self.old) (uncounted_of F.state self.new) }
         ensures calls { Calls (uncounted_of F.state self.old) (uncounted_of F.state self.new) result }
-        ensures count { self.new.calls ≡ self.old.calls }
+        ensures count { self.new.tally ≡ self.old.tally }
         ensures stale { Settles result (uncounted_of F.state self.new) }
         ensures even { UnlessFlash result (StaysEven self.old.used (F.state self.old.flash) (F.state self.new.flash)) }
     {
@@ -258,7 +260,7 @@ impl<F: Flash> Fee<F> {
         requires length { is_length valid (length bytes.now) ≡ true }
         ensures changes { Changes (uncounted_of F.state self.old) (uncounted_of F.state self.new) block (asked_of valid bytes.now) (length bytes.now) result }
         ensures calls { Calls (uncounted_of F.state self.old) (uncounted_of F.state self.new) result }
-        ensures count { self.new.calls ≡ self.old.calls }
+        ensures count { self.new.tally ≡ self.old.tally }
         ensures stale { Settles result (uncounted_of F.state self.new) }
         ensures answers { AnswersBy (refusal (uncounted_of F.state self.old) block (length bytes.now)) result }
         ensures stores { IsFalse (uncounted_of F.state self.old).is_stale → NoFault (uncounted_of F.state self.old) (uncounted_of F.state self.new)
@@ -282,6 +284,27 @@ impl<F: Flash> Fee<F> {
         place_of(&self.numbers, &self.places, block)
     }
 
+    /// Reads a block.
+    fn get(&mut self, block: u16, out: &mut [u8; 128]) -> Result<Found, BlockFault>
+        requires { Contains (uncounted_of F.state self.old).numbers block }
+        ensures found { IfOk result (λ found. ReadsContent ((uncounted_of F.state self.old).value block) found out.old out.new) }
+        ensures nothing { OnErr result (out.new ≡ out.old) }
+        ensures reads { ReadsAlone (uncounted_of F.state self.old) (uncounted_of F.state self.new) result }
+        ensures count { self.new.tally ≡ self.old.tally }
+        ensures costs { ReadCosts (uncounted_of F.state self.old) (uncounted_of F.state self.new) block }
+        ensures even { UnlessFlash result (StaysEven self.old.used (F.state self.old.flash) (F.state self.new.flash)) }
+    {
+        self.settle()?;
+        match self.place(block) {
+            None => Ok(Found::Missing),
+            Some(place) if place.valid => {
+                read_record(&mut self.flash, self.sector, place, out)?;
+                Ok(Found::Bytes(place.length as usize))
+            }
+            Some(_) => Ok(Found::Invalid),
+        }
+    }
+
     /// A driver over this flash of `used` pages in each sector, for these block numbers. It is stale, and has not mounted.
     /// It takes the memory of a place and of a row of the index for each number, and no other call takes any. The error means that memory ran out, and hands
     /// the flash back.
@@ -301,7 +324,7 @@ impl<F: Flash> Fee<F> {
                 numbers,
                 is_stale: true,
                 has_mounted: false,
-                calls: 0,
+                tally: Tally::none(),
                 sector: 0,
                 sequence: 0,
                 end: 0,
@@ -339,15 +362,16 @@ impl<F: Bench> Blocks for Fee<F> {
         ensures values { SameValues (state_of F.state self.old) (state_of F.state self.new) }
         ensures spent { SameSpent (state_of F.state self.old) (state_of F.state self.new) }
         ensures calls { Calls (state_of F.state self.old) (state_of F.state self.new) result }
-        ensures once { CountsCall (state_of F.state self.old) (state_of F.state self.new) }
+        ensures once { CountsMount (state_of F.state self.old) (state_of F.state self.new) }
         ensures never_full { NeverFull result }
         ensures stale { Settles result (state_of F.state self.new) }
+        ensures costs { MountCosts (state_of F.state self.old) (state_of F.state self.new) }
 
         // The sectors wear evenly.
         ensures even { NoFault (state_of F.state self.old) (state_of F.state self.new)
             → StaysEven self.old.used (F.state self.old.flash) (F.state self.new.flash) }
     {
-        self.calls = self.calls.saturating_add(1);
+        self.tally.count();
         self.look()
     }
 
@@ -357,7 +381,7 @@ impl<F: Bench> Blocks for Fee<F> {
         requires most { length bytes.now ≤ 128 }
         ensures changes { Changes (state_of F.state self.old) (state_of F.state self.new) block (holding bytes.now) (length bytes.now) result }
         ensures calls { Calls (state_of F.state self.old) (state_of F.state self.new) result }
-        ensures once { CountsCall (state_of F.state self.old) (state_of F.state self.new) }
+        ensures once { CountsCallOf block (state_of F.state self.old) (state_of F.state self.new) result }
         ensures stale { Settles result (state_of F.state self.new) }
         ensures costs { Costs (state_of F.state self.old) (state_of F.state self.new) (length bytes.now) }
 
@@ -374,40 +398,30 @@ impl<F: Bench> Blocks for Fee<F> {
         ensures even { NoFault (state_of F.state self.old) (state_of F.state self.new)
             → StaysEven self.old.used (F.state self.old.flash) (F.state self.new.flash) }
     {
-        self.calls = self.calls.saturating_add(1);
-        self.put(block, bytes, true)
+        self.tally.count();
+        let answer = self.put(block, bytes, true);
+        self.tally.note(block, &answer);
+        answer
     }
 
     fn read(&mut self, block: u16, out: &mut [u8; 128]) -> Result<Found, BlockFault>
         requires { Contains (state_of F.state self.old).numbers block }
         ensures found { IfOk result (λ found. ReadsContent ((state_of F.state self.old).value block) found out.old out.new) }
         ensures nothing { OnErr result (out.new ≡ out.old) }
-        ensures values { SameValues (state_of F.state self.old) (state_of F.state self.new) }
-        ensures spent { SameSpent (state_of F.state self.old) (state_of F.state self.new) }
-        ensures calls { Calls (state_of F.state self.old) (state_of F.state self.new) result }
-        ensures once { CountsCall (state_of F.state self.old) (state_of F.state self.new) }
-        ensures never_full { NeverFull result }
-        ensures not_stale { OnOk result (IsFalse (state_of F.state self.new).is_stale) }
-        ensures stale { IsFalse (state_of F.state self.old).is_stale → IsFalse (state_of F.state self.new).is_stale }
+        ensures once { CountsCallOf block (state_of F.state self.old) (state_of F.state self.new) result }
+        ensures reads { ReadsAlone (state_of F.state self.old) (state_of F.state self.new) result }
 
-        // A driver that is not stale looks at no log: it reads the pages of the record's bytes alone, and writes nothing.
-        ensures image { IsFalse (state_of F.state self.old).is_stale → SameImage (state_of F.state self.old) (state_of F.state self.new) }
+        // A driver that is not stale looks at no log: it reads the pages of the record's bytes alone.
         ensures costs { ReadCosts (state_of F.state self.old) (state_of F.state self.new) block }
 
         // The sectors wear evenly.
         ensures even { NoFault (state_of F.state self.old) (state_of F.state self.new)
             → StaysEven self.old.used (F.state self.old.flash) (F.state self.new.flash) }
     {
-        self.calls = self.calls.saturating_add(1);
-        self.settle()?;
-        match self.place(block) {
-            None => Ok(Found::Missing),
-            Some(place) if place.valid => {
-                read_record(&mut self.flash, self.sector, place, out)?;
-                Ok(Found::Bytes(place.length as usize))
-            }
-            Some(_) => Ok(Found::Invalid),
-        }
+        self.tally.count();
+        let answer = self.get(block, out);
+        self.tally.note(block, &answer);
+        answer
     }
 
     fn look_up(&self, block: u16) -> Found {
@@ -422,7 +436,7 @@ impl<F: Bench> Blocks for Fee<F> {
         requires { Contains (state_of F.state self.old).numbers block }
         ensures changes { Changes (state_of F.state self.old) (state_of F.state self.new) block invalid 0 result }
         ensures calls { Calls (state_of F.state self.old) (state_of F.state self.new) result }
-        ensures once { CountsCall (state_of F.state self.old) (state_of F.state self.new) }
+        ensures once { CountsCallOf block (state_of F.state self.old) (state_of F.state self.new) result }
         ensures stale { Settles result (state_of F.state self.new) }
         ensures costs { Costs (state_of F.state self.old) (state_of F.state self.new) 0 }
 
@@ -439,8 +453,10 @@ impl<F: Bench> Blocks for Fee<F> {
         ensures even { NoFault (state_of F.state self.old) (state_of F.state self.new)
             → StaysEven self.old.used (F.state self.old.flash) (F.state self.new.flash) }
     {
-        self.calls = self.calls.saturating_add(1);
-        self.put(block, &[], false)
+        self.tally.count();
+        let answer = self.put(block, &[], false);
+        self.tally.note(block, &answer);
+        answer
     }
 
     fn spent(&self) -> bool {

@@ -1,12 +1,12 @@
--- What is said of calls of a driver does not depend on how many it counts.
-use Rattle.std.proofs.Common.{ℕ, Result}
+-- What is said of calls of a driver does not depend on what it keeps of them.
+use Rattle.std.proofs.Common.{ℕ, Option, Result}
 use Rattle.flt_flash.specs.Content.{Content}
 use Rattle.flt_flash.specs.Blocks.{BlocksState, IsFull, recounted}
-use Rattle.flt_flash.specs.Calls.{Follows, Calls, Changes, Costs}
+use Rattle.flt_flash.specs.Calls.{Follows, Calls, Changes, Costs, ReadsAlone}
 use Rattle.flt_flash.specs.declared.blocks.BlockFault.{BlockFault}
 
-module _ (earlier later : ℕ) (before after : BlocksState) where
-  pub follows_recounted : Follows before after → Follows (recounted earlier before) (recounted later after)
+module _ (earlier : ℕ) (failed : Option ℕ) (later : ℕ) (failed_later : Option ℕ) (before after : BlocksState) where
+  pub follows_recounted : Follows before after → Follows (recounted earlier failed before) (recounted later failed_later after)
   follows_recounted follows = record {
     numbers = follows.numbers;
     room = follows.room;
@@ -20,7 +20,7 @@ module _ (earlier later : ℕ) (before after : BlocksState) where
     bench = follows.bench;
   }
 
-  pub calls_recounted : {T : Type 0} {result : Result T BlockFault} → Calls before after result → Calls (recounted earlier before) (recounted later after) result
+  pub calls_recounted : {T : Type 0} {result : Result T BlockFault} → Calls before after result → Calls (recounted earlier failed before) (recounted later failed_later after) result
   calls_recounted calls = record {
     follows = follows_recounted calls.follows;
     flash = calls.flash;
@@ -28,11 +28,22 @@ module _ (earlier later : ℕ) (before after : BlocksState) where
     refuses_damage = calls.refuses_damage;
   }
 
-  full_recounted : {size live needed : ℕ} → IsFull after size live needed → IsFull (recounted later after) size live needed
+  pub reads_recounted : {T : Type 0} {result : Result T BlockFault} → ReadsAlone before after result → ReadsAlone (recounted earlier failed before) (recounted later failed_later after) result
+  reads_recounted reads = record {
+    values = reads.values;
+    calls = calls_recounted reads.calls;
+    never_full = reads.never_full;
+    spent = reads.spent;
+    settled = reads.settled;
+    stale = reads.stale;
+    image = reads.image;
+  }
+
+  full_recounted : {size live needed : ℕ} → IsFull after size live needed → IsFull (recounted later failed_later after) size live needed
   full_recounted full = record { live_is = full.live_is; needed_is = full.needed_is; past = full.past }
 
   pub changes_recounted : {block : ℕ} {asked : Content} {size : ℕ} {result : Result (Unit {0}) BlockFault} → Changes before after block asked size result
-      → Changes (recounted earlier before) (recounted later after) block asked size result
+      → Changes (recounted earlier failed before) (recounted later failed_later after) block asked size result
   changes_recounted changes = record {
     done = changes.done;
     failed = changes.failed;
@@ -42,5 +53,5 @@ module _ (earlier later : ℕ) (before after : BlocksState) where
     damaged = changes.damaged;
   }
 
-  pub costs_recounted : {size : ℕ} → Costs before after size → Costs (recounted earlier before) (recounted later after) size
+  pub costs_recounted : {size : ℕ} → Costs before after size → Costs (recounted earlier failed before) (recounted later failed_later after) size
   costs_recounted costs = record { at_the_end = costs.at_the_end; at_most = costs.at_most }

@@ -27,6 +27,7 @@ pub record BlocksState : Type 0 where
   pub is_stale : Bool  -- the next call mounts first
   pub has_mounted : Bool  -- a mount has answered Ok
   pub calls : ℕ  -- the mounts, writes, reads and invalidates that were made, as far as the count goes
+  pub last_failed : Option ℕ  -- the block of the last write, read or invalidate that the flash failed
   pub value : ℕ → Content  -- what each block holds
   pub damage : Option (ℕ × ℕ)  -- the place of the first fault of the image
   pub room : Option ℕ  -- the pages for records, where they are limited
@@ -34,9 +35,9 @@ pub record BlocksState : Type 0 where
   pub is_stuck : ℕ → ℕ → Bool  -- this record can't be written any more
   pub device : DeviceState
 
--- A driver that counts so many calls.
-abbrev pub recounted : ℕ → BlocksState → BlocksState
-recounted calls state = record state { calls = calls }
+-- A driver that counts so many calls, and of which the flash failed this one last.
+abbrev pub recounted : ℕ → Option ℕ → BlocksState → BlocksState
+recounted calls last_failed state = record state { calls = calls; last_failed = last_failed }
 
 -- The pages of plain bytes of a record: 32 bytes a page.
 abbrev pub byte_pages : ℕ → ℕ

@@ -58,6 +58,32 @@ pub record Calls {T : Type 0} (before after : BlocksState) (result : Result T Bl
 abbrev pub CountsCall : BlocksState → BlocksState → Type 0
 CountsCall before after = after.calls ≡ counted before.calls
 
+-- The block of the last call that the flash failed, after a call of this block that was answered by this fault.
+abbrev pub failed_by : ℕ → Option ℕ → BlockFault → Option ℕ
+failed_by block earlier Flash = Some block
+failed_by block earlier (Full live needed) = earlier
+failed_by block earlier SequenceSpent = earlier
+failed_by block earlier (Damaged sector page) = earlier
+
+-- The same, after a call of this block with this answer.
+abbrev pub failed_after : {T : Type 0} → ℕ → Option ℕ → Result T BlockFault → Option ℕ
+failed_after block earlier (Ok value) = earlier
+failed_after block earlier (Err fault) = failed_by block earlier fault
+
+-- A write, read or invalidate of this block that the flash failed is the last one that it failed, and no other answer changes which that is.
+abbrev pub NamesFailure : {T : Type 0} → ℕ → BlocksState → BlocksState → Result T BlockFault → Type 0
+NamesFailure block before after result = after.last_failed ≡ failed_after block before.last_failed result
+
+-- One write, read or invalidate of this block more was made.
+pub record CountsCallOf {T : Type 0} (block : ℕ) (before after : BlocksState) (result : Result T BlockFault) : Type 0 where
+  pub calls : CountsCall before after
+  pub named : NamesFailure block before after result
+
+-- One mount more was made, which is of no block.
+pub record CountsMount (before after : BlocksState) : Type 0 where
+  pub calls : CountsCall before after
+  pub named : after.last_failed ≡ before.last_failed
+
 -- A fault of the flash or of the image leaves the driver stale, and no other answer does.
 abbrev pub Settles : {T : Type 0} → Result T BlockFault → BlocksState → Type 0
 Settles (Ok value) after = IsFalse after.is_stale
@@ -79,6 +105,16 @@ pub record Changes (before after : BlocksState) (block : ℕ) (asked : Content) 
   pub full : (live needed : ℕ) → IsErrOf result (Full live needed) → IsFull after size live needed × SameValues before after
   pub spent : IsErrOf result SequenceSpent → IsTrue (after.is_stuck block size) × SameValues before after
   pub damaged : (sector page : ℕ) → IsErrOf result (Damaged sector page) → SameValues before after
+
+-- A call that reads alone: no block changes, no sequence number is used, and on a driver that was not stale nothing is written.
+pub record ReadsAlone {T : Type 0} (before after : BlocksState) (result : Result T BlockFault) : Type 0 where
+  pub values : SameValues before after
+  pub calls : Calls before after result
+  pub never_full : NeverFull result
+  pub spent : SameSpent before after
+  pub settled : OnOk result (IsFalse after.is_stale)
+  pub stale : IsFalse before.is_stale → IsFalse after.is_stale
+  pub image : IsFalse before.is_stale → SameImage before after
 
 -- What a read finds of a content, with its bytes at the start of out.
 abbrev pub ReadsContent : Content → Found → List ℕ → List ℕ → Type 0
@@ -123,6 +159,16 @@ pub record Costs (before after : BlocksState) (size : ℕ) : Type 0 where
 -- What a read of a block costs on a driver that is not stale, where no operation failed.
 abbrev pub ReadCosts : BlocksState → BlocksState → ℕ → Type 0
 ReadCosts before after block = IsFalse before.is_stale → NoFault before after → CostsAtMost (byte_pages (size_of (before.value block))) before after
+
+-- The operations of a mount: where the room is limited the four gates of two sectors are read, and a log whose end is read twice; else two
+-- gates of each number.
+abbrev pub mount_cost : Option ℕ → List ℕ → ℕ
+mount_cost None numbers = 2 * length numbers
+mount_cost (Some room) numbers = room + 5
+
+-- What a mount costs at most, whatever it answers.
+abbrev pub MountCosts : BlocksState → BlocksState → Type 0
+MountCosts before after = CostsAtMost (mount_cost before.room before.numbers) before after
 
 -- An arm is made on the device, and nothing else changes.
 pub record ArmsDriver (arm : Arm) (before after : BlocksState) : Type 0 where

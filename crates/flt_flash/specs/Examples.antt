@@ -1,8 +1,11 @@
--- Worked operations of a flash in memory: which arm acts, what stands behind it, and what a pattern leaves.
-use Rattle.std.specs.Prelude.{◌≡◌, ◌^◌, ◌-◌, ◌<◌, ℕ, Bool, true, false, List, [], ◌∷◌, length, map, nat_le, if◌then◌else◌, Option, Some, None, slice_index, slice_index_or}
+-- Worked operations of a flash in memory: which arm acts, what stands behind it, and what a pattern leaves; which block failed last, and what a mount costs.
+use Rattle.std.specs.Prelude.{◌≡◌, ◌^◌, ◌-◌, ◌<◌, ℕ, Bool, true, false, List, [], ◌∷◌, length, map, nat_le, if◌then◌else◌, Option, Some, None, Result, Ok, Err, slice_index, slice_index_or}
 use Rattle.flt_flash.specs.Image.{blank_page, ArePages}
 use Rattle.flt_flash.specs.Arms.{IsTornBy, IsErasedBy, IsProgrammedBy}
 use Rattle.flt_flash.specs.Power.{PowerState, failing_by, read_fails, power_after_write, power_after_read}
+use Rattle.flt_flash.specs.Calls.{failed_after, mount_cost}
+use Rattle.flt_flash.specs.declared.blocks.BlockFault.{BlockFault}
+use Rattle.flt_flash.specs.declared.blocks.BlockFault.TheVariants.{Flash, Full, SequenceSpent, Damaged}
 use Rattle.flt_flash.specs.declared.arm.Arm.{Arm}
 use Rattle.flt_flash.specs.declared.arm.Arm.TheVariants.{Cut, Fault, Mute}
 use Rattle.flt_flash.specs.declared.arm.Pattern.{Pattern}
@@ -92,3 +95,21 @@ ProgramsAreTorn =
     (pages after : List (List ℕ)) (page : ℕ) (bytes : List ℕ) (byte : ℕ) → IsProgrammedBy Tail pages page bytes after → page < length pages
     → byte < length (slice_index_or pages page [])
     → slice_index (slice_index_or after page []) byte ≡ (if nat_le 16 byte then slice_index bytes byte else slice_index (slice_index_or pages page []) byte)
+
+-- The block that the flash failed last after a call of block 9, answered so, where it failed none before, or block 8.
+abbrev pub failed_last : Result (Unit {0}) BlockFault → List (Option ℕ)
+failed_last answer = map (λ earlier. failed_after 9 earlier answer) (None ∷ Some 8 ∷ [])
+
+-- A fault of the flash is of the block that was called, and no other answer is of any.
+pub record FailuresAreNamed : Type 0 where
+  pub flash : failed_last (Err Flash) ≡ Some 9 ∷ Some 9 ∷ []
+  pub done : failed_last (Ok tt) ≡ None ∷ Some 8 ∷ []
+  pub full : failed_last (Err (Full 6 5)) ≡ None ∷ Some 8 ∷ []
+  pub spent : failed_last (Err SequenceSpent) ≡ None ∷ Some 8 ∷ []
+  pub damaged : failed_last (Err (Damaged 0 3)) ≡ None ∷ Some 8 ∷ []
+
+-- Of three blocks each of the six gates is read once. Of sectors of twelve pages with a room of ten: the four gates, and eleven reads of a
+-- log whose ten pages are blank, of which the first is read twice.
+pub record MountsCost : Type 0 where
+  pub gates : mount_cost None (8 ∷ 16 ∷ 17 ∷ []) ≡ 6
+  pub log : mount_cost (Some 10) (8 ∷ 16 ∷ 17 ∷ []) ≡ 15

@@ -4,7 +4,7 @@ ghost use Rattle.flt_flash.specs.Content.{invalid, bytes as holding, IsShort};
 ghost use Rattle.flt_flash.specs.State.{CanArm};
 ghost use Rattle.flt_flash.specs.Blocks.{BlocksState};
 ghost use Rattle.flt_flash.specs.declared.blocks.BlockFault.TheVariants.{Flash};
-ghost use Rattle.flt_flash.specs.Calls.{Follows, Calls, CountsCall, NeverFull, Changes, Costs, ReadCosts, SameImage, SameSpent, SameValues, Settles, ReadsContent, found_of, ArmsDriver, PowersUpDriver};
+ghost use Rattle.flt_flash.specs.Calls.{Follows, Calls, CountsCallOf, CountsMount, NeverFull, Changes, Costs, MountCosts, ReadCosts, ReadsAlone, SameSpent, SameValues, Settles, ReadsContent, found_of, ArmsDriver, PowersUpDriver};
 
 use crate::{Arm, FlashFailed};
 use thiserror::Error;
@@ -57,7 +57,8 @@ impl From<FlashFailed> for BlockFault {
 ///
 /// A driver is stale when it was just made, after a write, invalidate or mount that answered `Flash` or `Damaged`, and
 /// after `power_up`; a read that fails may leave a stale one stale. The next call of a stale driver mounts first, and may answer the fault of that mount.
-/// It counts its mounts, writes, reads and invalidates, each once; the mount that a stale one makes by itself is not counted.
+/// It counts its mounts, writes, reads and invalidates, each once; the mount that a stale one makes by itself is not counted. It keeps
+/// the block of the last write, read or invalidate that answered `Flash`.
 pub trait Blocks {
     /// The blocks, and what the device tells. Room, operations and erases are told or not, as the driver has them.
     ghost state: { Self → BlocksState };
@@ -66,12 +67,15 @@ pub trait Blocks {
     fn mount(&mut self) -> Result<(), BlockFault>
         ensures values { SameValues (state self.old) (state self.new) }
         ensures calls { Calls (state self.old) (state self.new) result }
-        ensures once { CountsCall (state self.old) (state self.new) }
+        ensures once { CountsMount (state self.old) (state self.new) }
         ensures never_full { NeverFull result }
         ensures stale { Settles result (state self.new) }
 
         // It writes no record, so it uses no sequence number.
-        ensures spent { SameSpent (state self.old) (state self.new) };
+        ensures spent { SameSpent (state self.old) (state self.new) }
+
+        // It looks at each gate and each page of one log.
+        ensures costs { MountCosts (state self.old) (state self.new) };
 
     /// Gives a block these bytes.
     fn write(&mut self, block: u16, bytes: &[u8]) -> Result<(), BlockFault>
@@ -80,7 +84,7 @@ pub trait Blocks {
         requires most { length bytes.now ≤ 128 }
         ensures changes { Changes (state self.old) (state self.new) block (holding bytes.now) (length bytes.now) result }
         ensures calls { Calls (state self.old) (state self.new) result }
-        ensures once { CountsCall (state self.old) (state self.new) }
+        ensures once { CountsCallOf block (state self.old) (state self.new) result }
         ensures stale { Settles result (state self.new) }
         ensures costs { Costs (state self.old) (state self.new) (length bytes.now) };
 
@@ -89,18 +93,12 @@ pub trait Blocks {
         requires { Contains (state self.old).numbers block }
         ensures found { IfOk result (λ found. ReadsContent ((state self.old).value block) found out.old out.new) }
         ensures nothing { OnErr result (out.new ≡ out.old) }
-        ensures values { SameValues (state self.old) (state self.new) }
-        ensures calls { Calls (state self.old) (state self.new) result }
-        ensures once { CountsCall (state self.old) (state self.new) }
-        ensures never_full { NeverFull result }
-        ensures spent { SameSpent (state self.old) (state self.new) }
+        ensures once { CountsCallOf block (state self.old) (state self.new) result }
 
-        // A read that fails leaves a driver that was not stale as it was.
-        ensures not_stale { OnOk result (IsFalse (state self.new).is_stale) }
-        ensures stale { IsFalse (state self.old).is_stale → IsFalse (state self.new).is_stale }
+        // It changes no block. A driver that was not stale writes nothing and does not become stale, whatever the answer is.
+        ensures reads { ReadsAlone (state self.old) (state self.new) result }
 
-        // Such a driver reads the pages of the block's bytes alone, and writes nothing.
-        ensures image { IsFalse (state self.old).is_stale → SameImage (state self.old) (state self.new) }
+        // Such a driver reads the pages of the block's bytes alone.
         ensures costs { ReadCosts (state self.old) (state self.new) block };
 
     /// What a read of a block would find, without its bytes. It makes no operation of the device.
@@ -114,7 +112,7 @@ pub trait Blocks {
         requires { Contains (state self.old).numbers block }
         ensures changes { Changes (state self.old) (state self.new) block invalid 0 result }
         ensures calls { Calls (state self.old) (state self.new) result }
-        ensures once { CountsCall (state self.old) (state self.new) }
+        ensures once { CountsCallOf block (state self.old) (state self.new) result }
         ensures stale { Settles result (state self.new) }
         ensures costs { Costs (state self.old) (state self.new) 0 };
 

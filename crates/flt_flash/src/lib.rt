@@ -16,6 +16,7 @@ mod made;
 mod memory;
 mod pages;
 mod power;
+mod tally;
 pub mod worked;
 
 pub use arm::{Arm, ArmMade, Pattern};
@@ -27,3 +28,4 @@ pub use made::ArmsTold;
 pub use memory::FlashMem;
 pub use pages::{BLANK_PAGE, blank_pages, outcome, pages_of, write_page};
 pub use power::Power;
+pub use tally::Tally;

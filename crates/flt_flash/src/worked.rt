@@ -1,5 +1,5 @@
-//! Worked operations of a flash in memory, which the check computes, and what a torn one leaves.
-ghost use Rattle.flt_flash.specs.Examples.{ArmsAct, BytesAreTorn, ErasesAreTorn, ProgramsAreTorn};
+//! Worked operations of a flash in memory, which the check computes, what a torn one leaves, which block failed last, and what a mount costs.
+ghost use Rattle.flt_flash.specs.Examples.{ArmsAct, BytesAreTorn, ErasesAreTorn, FailuresAreNamed, MountsCost, ProgramsAreTorn};
 
 /// Which arm acts at a program, an erase or a read, how it fails then, and what stands behind it.
 pub fn arms_act()
@@ -11,4 +11,14 @@ pub fn patterns_tear()
     ensures bytes { BytesAreTorn }
     ensures erases { ErasesAreTorn }
     ensures programs { ProgramsAreTorn }
+{}
+
+/// After which answers the last call that the flash failed is another one.
+pub fn failures_are_named()
+    ensures { FailuresAreNamed }
+{}
+
+/// The operations of a mount of a driver whose room is limited, and of one whose room is not.
+pub fn mounts_cost()
+    ensures { MountsCost }
 {}

@@ -1,5 +1,5 @@
 -- How the two kinds of device keep the blocks of an image.
-use Rattle.std.specs.Prelude.{◌≡◌, ℕ, ◌-◌, ◌≤◌, Bool, List}
+use Rattle.std.specs.Prelude.{◌≡◌, ℕ, ◌-◌, ◌≤◌, Bool, List, Option}
 use Rattle.std.proofs.Common.{sym, arith}
 use Rattle.flt_flash.specs.State.{FlashState}
 use Rattle.flt_flash.specs.Blocks.{recounted}
@@ -21,10 +21,10 @@ abbrev pub units : Config → Medium
 units c = record { value = value_in numbers; damage = damage_in numbers; is_spent = is_spent_in numbers }
 
 -- What a driver over a flash tells of its blocks is what its image says.
-pub is_on_sectors : (c : Config) (used : ℕ) (given : List ℕ) (is_stale has_mounted : Bool) (calls : ℕ) (flash : FlashState)
+pub is_on_sectors : (c : Config) (used : ℕ) (given : List ℕ) (is_stale has_mounted : Bool) (calls : ℕ) (last_failed : Option ℕ) (flash : FlashState)
     → 4 ≤ used → given ≡ numbers → used - 2 ≡ c.pages - 2
-    → IsOn (sectors c) (recounted calls (on_flash used given is_stale has_mounted flash))
-is_on_sectors c used given is_stale has_mounted calls flash least given_is room =
+    → IsOn (sectors c) (recounted calls last_failed (on_flash used given is_stale has_mounted flash))
+is_on_sectors c used given is_stale has_mounted calls last_failed flash least given_is room =
     let same : c.pages ≡ used = omega (arith, least, room) in
     record {
       value = λ i. block_value (same i) (sym given_is i) flash.image;
@@ -33,9 +33,9 @@ is_on_sectors c used given is_stale has_mounted calls flash least given_is room 
     }
 
 -- What a driver over an EEPROM tells of its blocks is what its image says.
-pub is_on_units : (c : Config) (given : List ℕ) (is_stale has_mounted : Bool) (calls : ℕ) (device : FlashState) → given ≡ numbers
-    → IsOn (units c) (recounted calls (on_eeprom given is_stale has_mounted device))
-is_on_units c given is_stale has_mounted calls device given_is = record {
+pub is_on_units : (c : Config) (given : List ℕ) (is_stale has_mounted : Bool) (calls : ℕ) (last_failed : Option ℕ) (device : FlashState) → given ≡ numbers
+    → IsOn (units c) (recounted calls last_failed (on_eeprom given is_stale has_mounted device))
+is_on_units c given is_stale has_mounted calls last_failed device given_is = record {
   value = λ i. value_in (sym given_is i) device.image;
   damage = λ i. damage_in (sym given_is i) device.image;
   is_spent = λ i. is_spent_in (sym given_is i) device.image;

@@ -76,7 +76,7 @@ impl<B: Bench + Drop> Driver for Fee<B> {
         self.retire()
     }
 
-    ghost keeps = { λ c driver given room. is_on_sectors c driver.used driver.numbers driver.is_stale driver.has_mounted driver.calls
+    ghost keeps = { λ c driver given room. is_on_sectors c driver.used driver.numbers driver.is_stale driver.has_mounted driver.tally.calls driver.tally.last_failed
         (B.state driver.flash) driver.least given room };
 }
 
@@ -105,5 +105,5 @@ impl<E: Eeprom + Drop> Driver for Ea<E> {
         self.retire()
     }
 
-    ghost keeps = { λ c driver given room. is_on_units c driver.numbers driver.is_stale driver.has_mounted driver.calls (E.state driver.device) given };
+    ghost keeps = { λ c driver given room. is_on_units c driver.numbers driver.is_stale driver.has_mounted driver.tally.calls driver.tally.last_failed (E.state driver.device) given };
 }

@@ -1,5 +1,5 @@
 -- What a job leaves follows from what each of its tries leaves.
-use Rattle.std.proofs.Common.{◌≡◌, ◌⊎◌, inl, inr, ⊎_elim, ℕ, zero, suc, true, false, Result, Ok, Err, is_ok, refl, ◌∙◌, subst, arith}
+use Rattle.std.proofs.Common.{◌≡◌, ◌⊎◌, inl, inr, ⊎_elim, ℕ, zero, suc, true, false, Some, Result, Ok, Err, is_ok, refl, ◌∙◌, ap, subst, arith}
 use Rattle.flt_flash.specs.Content.{Content}
 use Rattle.flt_flash.specs.declared.blocks.BlockFault.{BlockFault}
 use Rattle.flt_flash.specs.declared.blocks.BlockFault.TheVariants.{Flash, Full, SequenceSpent, Damaged}
@@ -8,6 +8,7 @@ use Rattle.std.proofs.lemmas.Grind.{common_steps}
 use Rattle.flt_flash.specs.Calls.{Calls, Changes, Settles}
 use Rattle.flt_nvm.specs.Table.{number_of}
 use Rattle.flt_nvm.specs.Tries.{Tries, Changing}
+use Rattle.flt_nvm.proofs.Named.{tries_named}
 use Rattle.flt_nvm.specs.Leaves.{FlashTakesThree, Gives, GivesBoth, GivesCopies, GivesInAJob, GivesInTwoJobs, GivesNumber}
 
 module _ (block : ℕ) (asked : Content) (size : ℕ) where
@@ -62,6 +63,7 @@ module _ (block : ℕ) (asked : Content) (size : ℕ) (before after : BlocksStat
     calls = calls_in_a_job;
     stale = settles_in_a_job;
     three = takes_three;
+    named = tries_named (Changing block asked size) block (λ earlier later answer one. one.once.named) 3 before after result tries;
   }
 
 module _ (id : ℕ) (asked : Content) (size first : ℕ) (first_is : first ≡ number_of id 0) where
@@ -99,6 +101,7 @@ module _ (id : ℕ) (asked : Content) (size first : ℕ) (first_is : first ≡ n
     calls = gives.calls;
     stale = gives.stale;
     three = gives.three;
+    named = λ told. inl (gives.named.flash told ∙ ap Some first_is);
   }
 
   pub gives_both : (second : ℕ) → second ≡ number_of id 1 → (before between after : BlocksState) (value : Unit {0}) (result : Result (Unit {0}) BlockFault)
@@ -109,4 +112,5 @@ module _ (id : ℕ) (asked : Content) (size first : ℕ) (first_is : first ≡ n
     calls = grind (arith, common_steps);
     stale = two.stale;
     three = grind (arith, common_steps);
+    named = λ told. inr (two.named.flash told ∙ ap Some second_is);
   }

@@ -4,4 +4,5 @@ pub mod Kept
 pub mod Found
 pub mod Looking
 pub mod Counting
+pub mod Named
 pub mod Rows

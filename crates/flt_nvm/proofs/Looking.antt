@@ -5,11 +5,12 @@ use Rattle.std.specs.Prelude.{IsErrOf, IfOk, OnErr}
 use Rattle.flt_flash.specs.Blocks.{BlocksState}
 use Rattle.flt_flash.specs.declared.blocks.BlockFault.{BlockFault}
 use Rattle.flt_flash.specs.declared.blocks.BlockFault.TheVariants.{Flash, Full, SequenceSpent, Damaged}
-use Rattle.flt_flash.specs.Calls.{ReadCosts}
-use Rattle.flt_nvm.specs.Tries.{Tries, Looks, ReadsAlone}
+use Rattle.flt_flash.specs.Calls.{ReadCosts, ReadsAlone}
+use Rattle.flt_nvm.specs.Tries.{Tries, Looks}
 use Rattle.flt_nvm.specs.declared.got.Got.{Got}
 use Rattle.flt_nvm.specs.Leaves.{FlashTakesThree, GotOf}
 use Rattle.flt_nvm.specs.Reads.{LooksInAJob, ReadsNumber}
+use Rattle.flt_nvm.proofs.Named.{tries_named}
 
 no_fault : {T : Type 0} (value : T) (fault : BlockFault) → IsErrOf (Ok value) fault → ⊥
 no_fault value fault is = absurd (cc is)
@@ -51,10 +52,10 @@ module _ (before after : BlocksState) where
 
 module _ (block : ℕ) (before after : BlocksState) where
   look_ok : {S T : Type 0} (x : S) (y : T) → Looks block before after (Ok x) → Looks block before after (Ok y)
-  look_ok x y looks = record { reads = reads_ok before after x y looks.reads; once = looks.once; costs = looks.costs }
+  look_ok x y looks = record { reads = reads_ok before after x y looks.reads; once = record { calls = looks.once.calls; named = looks.once.named }; costs = looks.costs }
 
   look_err : (S T : Type 0) (fault : BlockFault) → Looks {T = S} block before after (Err fault) → Looks {T = T} block before after (Err fault)
-  look_err S T fault looks = record { reads = reads_err before after S T fault looks.reads; once = looks.once; costs = looks.costs }
+  look_err S T fault looks = record { reads = reads_err before after S T fault looks.reads; once = record { calls = looks.once.calls; named = looks.once.named }; costs = looks.costs }
 
 pub looks_ok : {S T : Type 0} (block most : ℕ) (before after : BlocksState) (x : S) (y : T) → Tries most (Looks block) before after (Ok x) → Tries most (Looks block) before after (Ok y)
 unfolding Tries
@@ -95,4 +96,5 @@ reads_number copy block before after out_before out_after result job got nothing
   reads = reads_in_a_job block before after result job;
   costs = costs_in_a_job block before after result job;
   three = read_takes_three block before after result job;
+  named = tries_named (Looks block) block (λ earlier later answer one. one.once.named) 3 before after result job;
 }

@@ -1,18 +1,17 @@
 -- What a call on a block by its identifier leaves: of a native block and of a dataset what a job on its number leaves, of a
 -- redundant block what jobs on both copies leave. No call changes the table.
-use Rattle.std.specs.Prelude.{◌≡◌, ◌≢◌, ◌⊎◌, ◌-◌, ℕ, List, Result, IsFalse, IfOk, OnOk, OnErr, IsErrOf}
+use Rattle.std.specs.Prelude.{◌≡◌, ◌≢◌, ◌⊎◌, ◌-◌, ℕ, List, Some, Result, IsFalse, IfOk, OnOk, OnErr, IsErrOf}
 use Rattle.flt_flash.specs.Content.{Content}
 use Rattle.flt_flash.specs.State.{HasRisenBy}
-use Rattle.flt_flash.specs.Calls.{Calls, ReadCosts, Settles}
+use Rattle.flt_flash.specs.Calls.{Calls, ReadCosts, ReadsAlone, Settles}
 use Rattle.flt_flash.specs.declared.blocks.Blocks.{Ghosts}
 use Rattle.flt_flash.specs.declared.blocks.BlockFault.{BlockFault}
 use Rattle.flt_flash.specs.declared.blocks.BlockFault.TheVariants.{Flash, Full, SequenceSpent}
 use Rattle.flt_nvm.specs.declared.got.Got.{Got}
 use Rattle.flt_nvm.specs.declared.nvm.Nvm.{Nvm}
 use Rattle.flt_nvm.specs.Table.{number_of, AsKept}
-use Rattle.flt_nvm.specs.Tries.{ReadsAlone}
-use Rattle.flt_nvm.specs.Leaves.{FlashTakesThree, Gives, GivesBoth, GivesInAJob, GivesInTwoJobs, GotOf, GotOfBoth}
-use Rattle.flt_nvm.specs.Reads.{IsUnmended, IsUnreadable, LooksInAJob, LooksInTwoJobs, MendsInTwoJobs, ReadsBothCosts}
+use Rattle.flt_nvm.specs.Leaves.{FlashTakesThree, Gives, GivesBoth, GivesInAJob, GivesInTwoJobs, GotOf, GotOfBoth, HasFailedCopy, NamesNumber}
+use Rattle.flt_nvm.specs.Reads.{IsUnmended, IsUnread, IsUnreadable, LooksInAJob, LooksInTwoJobs, MendsInTwoJobs, ReadsBothCosts}
 use Rattle.flt_nvm.specs.Driver.{driver_of, table_of}
 
 module _ {B : Type 0} {b : Ghosts B} where
@@ -25,6 +24,7 @@ module _ {B : Type 0} {b : Ghosts B} where
     pub calls : Calls (driver_of before) (driver_of after) result
     pub stale : Settles result (driver_of after)
     pub three : FlashTakesThree (driver_of before) (driver_of after) result
+    pub named : IsErrOf result Flash → AsKept (table_of before) id ((driver_of after).last_failed ≡ Some (number_of id index)) (HasFailedCopy id (driver_of after))
     pub table : table_of after ≡ table_of before
 
   -- A read of a block.
@@ -38,7 +38,7 @@ module _ {B : Type 0} {b : Ghosts B} where
     pub costs : AsKept (table_of before) id (ReadCosts (driver_of before) (driver_of after) (number_of id index))
         (ReadsBothCosts (driver_of before) (driver_of after) id)
     -- Of a redundant block Flash comes only where neither copy gave its bytes.
-    pub unread : IsErrOf result Flash → AsKept (table_of before) id (HasRisenBy 3 (driver_of before).device.faults (driver_of after).device.faults)
+    pub unread : IsErrOf result Flash → AsKept (table_of before) id (IsUnread (number_of id index) (driver_of before) (driver_of after))
         (IsUnreadable (driver_of before) (driver_of after) id)
     pub three : FlashTakesThree (driver_of before) (driver_of after) result
     pub table : table_of after ≡ table_of before
@@ -51,6 +51,7 @@ module _ {B : Type 0} {b : Ghosts B} where
     pub reads : ReadsAlone (driver_of before) (driver_of after) result
     pub costs : ReadCosts (driver_of before) (driver_of after) (number_of id (copy - 1))
     pub three : FlashTakesThree (driver_of before) (driver_of after) result
+    pub named : NamesNumber (number_of id (copy - 1)) (driver_of before) (driver_of after) result
     pub table : table_of after ≡ table_of before
 
   -- A repair by one copy, 1 or 2, which holds these bytes: the other one is given them where it does not hold them or can't be read.

@@ -20,6 +20,16 @@ IsEither before after number asked = (after.value number ≡ before.value number
 abbrev pub FlashTakesThree : {T : Type 0} → BlocksState → BlocksState → Result T BlockFault → Type 0
 FlashTakesThree before after result = IsErrOf result Flash → HasRisenBy 3 before.device.faults after.device.faults
 
+-- After a job on this number the last call that the flash failed was of it, where the answer is that fault; else it was of this number, or
+-- is the one before.
+pub record NamesNumber {T : Type 0} (number : ℕ) (before after : BlocksState) (result : Result T BlockFault) : Type 0 where
+  pub flash : IsErrOf result Flash → after.last_failed ≡ Some number
+  pub either : (after.last_failed ≡ before.last_failed) ⊎ (after.last_failed ≡ Some number)
+
+-- The last call that the flash failed was of a copy of this block.
+abbrev pub HasFailedCopy : ℕ → BlocksState → Type 0
+HasFailedCopy id after = (after.last_failed ≡ Some (number_of id 0)) ⊎ (after.last_failed ≡ Some (number_of id 1))
+
 -- One number holds what was asked after Ok, what it held or what was asked after a fault, and every other what it held.
 pub record Gives (before after : BlocksState) (number : ℕ) (asked : Content) (size : ℕ) (result : Result (Unit {0}) BlockFault) : Type 0 where
   pub done : OnOk result (after.value number ≡ asked)
@@ -66,6 +76,7 @@ pub record GivesNumber (number : ℕ) (asked : Content) (size : ℕ) (before aft
   pub calls : Calls before after result
   pub stale : Settles result after
   pub three : FlashTakesThree before after result
+  pub named : NamesNumber number before after result
 
 -- One job or two that give both copies a content.
 pub record GivesCopies (id : ℕ) (asked : Content) (size : ℕ) (before after : BlocksState) (result : Result (Unit {0}) BlockFault) : Type 0 where
@@ -74,6 +85,7 @@ pub record GivesCopies (id : ℕ) (asked : Content) (size : ℕ) (before after :
   pub calls : Calls before after result
   pub stale : Settles result after
   pub three : FlashTakesThree before after result
+  pub named : IsErrOf result Flash → HasFailedCopy id after
 
 -- Missing or invalid.
 abbrev pub HasNoBytes : Content → Type 0

@@ -1,15 +1,15 @@
 -- What reads of blocks make of a driver, and when one answers that the flash failed it.
-use Rattle.std.specs.Prelude.{◌≡◌, ◌⊎◌, ◌+◌, ◌≢◌, ℕ, List, Result, IsFalse, IfOk, OnErr, IsErrOf}
+use Rattle.std.specs.Prelude.{◌≡◌, ◌⊎◌, ◌+◌, ◌≢◌, ℕ, List, Some, Result, IsFalse, IfOk, OnErr, IsErrOf}
 use Rattle.flt_flash.specs.Content.{Content, size_of}
 use Rattle.flt_flash.specs.State.{HasRisenBy}
 use Rattle.flt_flash.specs.Blocks.{BlocksState, byte_pages}
-use Rattle.flt_flash.specs.Calls.{CostsAtMost, NoFault, ReadCosts}
+use Rattle.flt_flash.specs.Calls.{CostsAtMost, NoFault, ReadCosts, ReadsAlone}
 use Rattle.flt_flash.specs.declared.blocks.BlockFault.{BlockFault}
 use Rattle.flt_flash.specs.declared.blocks.BlockFault.TheVariants.{Flash}
 use Rattle.flt_nvm.specs.declared.got.Got.{Got}
 use Rattle.flt_nvm.specs.Table.{number_of}
-use Rattle.flt_nvm.specs.Tries.{Tries, Looks, ReadsAlone}
-use Rattle.flt_nvm.specs.Leaves.{FlashTakesThree, GivesInAJob, GotOf, GotOfBoth, HasNoBytes}
+use Rattle.flt_nvm.specs.Tries.{Tries, Looks}
+use Rattle.flt_nvm.specs.Leaves.{FlashTakesThree, GivesInAJob, GotOf, GotOfBoth, HasFailedCopy, HasNoBytes, NamesNumber}
 
 -- One job that reads a number, whatever it answers.
 abbrev pub LooksInAJob : {T : Type 0} → ℕ → BlocksState → BlocksState → Result T BlockFault → Type 0
@@ -35,16 +35,21 @@ ReadsBothCosts before after id =
     IsFalse before.is_stale → NoFault before after
     → CostsAtMost (byte_pages (size_of (before.value (number_of id 0))) + byte_pages (size_of (before.value (number_of id 1)))) before after
 
--- Neither copy could be read, or one could not and the other has no bytes.
-abbrev pub IsUnreadable : BlocksState → BlocksState → ℕ → Type 0
-IsUnreadable before after id =
-    HasRisenBy 6 before.device.faults after.device.faults
-    ⊎ (HasRisenBy 3 before.device.faults after.device.faults × (HasNoBytes (before.value (number_of id 0)) ⊎ HasNoBytes (before.value (number_of id 1))))
+-- A number could not be read.
+pub record IsUnread (number : ℕ) (before after : BlocksState) : Type 0 where
+  pub three : HasRisenBy 3 before.device.faults after.device.faults
+  pub named : after.last_failed ≡ Some number
 
--- A copy could be neither read nor written, or it holds other bytes and could not be written.
-abbrev pub IsUnmended : BlocksState → BlocksState → ℕ → Content → Type 0
-IsUnmended before after number asked =
-    HasRisenBy 6 before.device.faults after.device.faults ⊎ (HasRisenBy 3 before.device.faults after.device.faults × (before.value number ≢ asked))
+-- Neither copy could be read, or one could not and the other has no bytes; the last call that failed was of a copy.
+pub record IsUnreadable (before after : BlocksState) (id : ℕ) : Type 0 where
+  pub copies : HasRisenBy 6 before.device.faults after.device.faults
+      ⊎ (HasRisenBy 3 before.device.faults after.device.faults × (HasNoBytes (before.value (number_of id 0)) ⊎ HasNoBytes (before.value (number_of id 1))))
+  pub named : HasFailedCopy id after
+
+-- A copy could be neither read nor written, or it holds other bytes and could not be written; the last call that failed was of it.
+pub record IsUnmended (before after : BlocksState) (number : ℕ) (asked : Content) : Type 0 where
+  pub cause : HasRisenBy 6 before.device.faults after.device.faults ⊎ (HasRisenBy 3 before.device.faults after.device.faults × (before.value number ≢ asked))
+  pub named : after.last_failed ≡ Some number
 
 -- A job that reads a number, as this copy.
 pub record ReadsNumber (copy number : ℕ) (before after : BlocksState) (out_before out_after : List ℕ) (result : Result Got BlockFault) : Type 0 where
@@ -54,6 +59,7 @@ pub record ReadsNumber (copy number : ℕ) (before after : BlocksState) (out_bef
   pub reads : ReadsAlone before after result
   pub costs : ReadCosts before after number
   pub three : FlashTakesThree before after result
+  pub named : NamesNumber number before after result
 
 -- One job or two that read both copies.
 pub record ReadsCopies (id : ℕ) (before after : BlocksState) (out_before out_after : List ℕ) (result : Result Got BlockFault) : Type 0 where

@@ -1,9 +1,9 @@
 -- A job on one block of a driver: one call, tried again where the flash failed.
-use Rattle.std.specs.Prelude.{◌⊎◌, ◌+◌, ◌≤◌, ℕ, zero, suc, Result, Err, IsErrOf, IsFalse, OnOk}
+use Rattle.std.specs.Prelude.{◌⊎◌, ◌+◌, ◌≤◌, ℕ, zero, suc, Result, Err, IsErrOf}
 use Rattle.flt_flash.specs.Content.{Content}
 use Rattle.flt_flash.specs.State.{HasRisenBy}
 use Rattle.flt_flash.specs.Blocks.{BlocksState}
-use Rattle.flt_flash.specs.Calls.{Calls, CountsCall, Changes, Costs, NeverFull, ReadCosts, SameImage, SameSpent, SameValues, Settles}
+use Rattle.flt_flash.specs.Calls.{Calls, CountsCallOf, CountsMount, Changes, Costs, MountCosts, NeverFull, ReadCosts, ReadsAlone, SameSpent, SameValues, Settles}
 use Rattle.flt_flash.specs.declared.blocks.BlockFault.{BlockFault}
 use Rattle.flt_flash.specs.declared.blocks.BlockFault.TheVariants.{Flash}
 
@@ -19,33 +19,24 @@ Tries (suc (suc more)) try before after result =
 pub record Mounts (before after : BlocksState) (result : Result (Unit {0}) BlockFault) : Type 0 where
   pub values : SameValues before after
   pub calls : Calls before after result
-  pub once : CountsCall before after
+  pub once : CountsMount before after
   pub never_full : NeverFull result
   pub stale : Settles result after
   pub spent : SameSpent before after
+  pub costs : MountCosts before after
 
 -- One write or invalidate, which gives a block this content by a record of this length.
 pub record Changing (block : ℕ) (asked : Content) (size : ℕ) (before after : BlocksState) (result : Result (Unit {0}) BlockFault) : Type 0 where
   pub changes : Changes before after block asked size result
   pub calls : Calls before after result
-  pub once : CountsCall before after
+  pub once : CountsCallOf block before after result
   pub stale : Settles result after
   pub costs : Costs before after size
-
--- A call that reads alone: no block changes, no sequence number is used, and on a driver that was not stale nothing is written.
-pub record ReadsAlone {T : Type 0} (before after : BlocksState) (result : Result T BlockFault) : Type 0 where
-  pub values : SameValues before after
-  pub calls : Calls before after result
-  pub never_full : NeverFull result
-  pub spent : SameSpent before after
-  pub settled : OnOk result (IsFalse after.is_stale)
-  pub stale : IsFalse before.is_stale → IsFalse after.is_stale
-  pub image : IsFalse before.is_stale → SameImage before after
 
 -- One read of a block.
 pub record Looks {T : Type 0} (block : ℕ) (before after : BlocksState) (result : Result T BlockFault) : Type 0 where
   pub reads : ReadsAlone before after result
-  pub once : CountsCall before after
+  pub once : CountsCallOf block before after result
   pub costs : ReadCosts before after block
 
 -- The driver counted one call at least, and so many at most.

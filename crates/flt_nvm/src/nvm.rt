@@ -33,14 +33,14 @@ fn holds(got: Got, out: &[u8; 128], bytes: &[u8]) -> bool
 
 impl<B: Blocks + Drop> Nvm<B> {
     ghost use Rattle.std.specs.Prelude.{◌<◌, ◌-◌, ◌⊎◌, Some, None, Result, Contains, IsFalse, IsErrOf, IfOk, OnOk, OnErr};
-    ghost use Rattle.flt_flash.specs.State.{CanArm, HasRisenBy};
+    ghost use Rattle.flt_flash.specs.State.{CanArm};
     ghost use Rattle.flt_flash.specs.Calls.{ArmsDriver, Follows, NeverFull, PowersUpDriver, ReadCosts, SameImage, SameSpent, SameValues, found_of};
     ghost use Rattle.flt_flash.specs.declared.blocks.BlockFault.{BlockFault};
     ghost use Rattle.flt_flash.specs.declared.blocks.BlockFault.TheVariants.{Flash};
     ghost use Rattle.flt_nvm.specs.declared.got.Got.{Got};
     ghost use Rattle.flt_nvm.specs.Table.{number_of, HasIndex, HasPlace, FitsBlock};
     ghost use Rattle.flt_nvm.specs.Leaves.{GivesCopies, GotOfSecond, HasNoBytes, MountsInAJob};
-    ghost use Rattle.flt_nvm.specs.Reads.{LooksInAJob, ReadsCopies};
+    ghost use Rattle.flt_nvm.specs.Reads.{IsUnread, LooksInAJob, ReadsCopies};
     ghost use Rattle.flt_nvm.specs.Blocks.{GivesBlock, ReadsBlock, ReadsCopy, Repairs};
     ghost use Rattle.flt_nvm.specs.Driver.{driver_of, table_of};
 
@@ -165,8 +165,9 @@ impl<B: Blocks + Drop> Nvm<B> {
         ensures nothing { OnErr result (out.new ≡ out.old) }
         ensures values { SameValues (driver_of self.old) (driver_of self.new) }
         ensures follows { Follows (driver_of self.old) (driver_of self.new) }
-        ensures flash { IsErrOf result Flash → HasRisenBy 3 (driver_of self.old).device.faults (driver_of self.new).device.faults
+        ensures flash { IsErrOf result Flash → IsUnread (number_of id 1) (driver_of self.old) (driver_of self.new)
             ⊎ ((first ≡ None) × HasNoBytes ((driver_of self.old).value (number_of id 1))) }
+        ensures named { ((driver_of self.new).last_failed ≡ (driver_of self.old).last_failed) ⊎ ((driver_of self.new).last_failed ≡ Some (number_of id 1)) }
         ensures damaged { (sector page : ℕ) → IsErrOf result (BlockFault.Damaged sector page)
             → ((driver_of self.old).damage ≡ Some (sector, page)) × IsFalse (driver_of self.old).has_mounted }
         ensures refuses_damage { OnOk result ((driver_of self.old).damage ≡ None) }

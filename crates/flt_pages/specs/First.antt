@@ -3,7 +3,7 @@ use Rattle.std.specs.Prelude.{ℕ, ◌<◌, Bool, List, [], Option, Some, None, 
 use Rattle.flt_code.specs.Seal.{unsealed}
 use Rattle.flt_sector_model.specs.Log.{item_by_gate}
 use Rattle.flt_sector_model.specs.declared.log.Item.{Item}
-use Rattle.flt_sector_model.specs.declared.log.Item.TheVariants.{Kept}
+use Rattle.flt_sector_model.specs.declared.log.Item.TheVariants.{End, Torn, Kept}
 use Rattle.flt_pages.specs.declared.items.Begin.{Begin}
 use Rattle.flt_pages.specs.declared.items.Begin.TheVariants.{Whole, Damaged, Record}
 
@@ -23,3 +23,9 @@ GateBelow used (Record block length valid gate) = gate < used
 abbrev pub item_completed : ℕ → ℕ → Bool → ℕ → Option Bool → Result Item ℕ
 item_completed block length valid gate (Some complete) = Ok (Kept block length valid complete)
 item_completed block length valid gate None = Err gate
+
+-- The pages that are read of an item at most: the first one, and for a record the one of its gate.
+abbrev pub reads_of : Item → ℕ
+reads_of End = 1
+reads_of Torn = 1
+reads_of (Kept block length valid complete) = 2

@@ -5,7 +5,7 @@ ghost use Rattle.flt_flash.specs.State.{OnlyReads, HasRisenBy};
 ghost use Rattle.flt_flash.specs.Blocks.{byte_pages};
 ghost use Rattle.flt_code.specs.Seal.{unsealed};
 ghost use Rattle.flt_sector_model.specs.Log.{item_at, item_by_gate, item_by_head, first_written};
-ghost use Rattle.flt_pages.specs.First.{item_begun, GateBelow, item_completed};
+ghost use Rattle.flt_pages.specs.First.{item_begun, GateBelow, item_completed, reads_of};
 ghost use Rattle.flt_pages.specs.Told.{told, told_fault, TellsOrFails};
 
 use crate::PageFault;
@@ -127,6 +127,8 @@ pub fn item<F: Flash>(
     ensures item { TellsOrFails result (told sector (item_at used numbers.now (sector_at (F.state flash.old).image sector) page)) }
     ensures reads { OnlyReads (F.state flash.old) (F.state flash.new) }
     ensures operations { (F.state flash.new).operations ≤ (F.state flash.old).operations + 2 }
+    ensures costs { IfOk result (λ item. (F.state flash.new).operations ≤ (F.state flash.old).operations + reads_of item) }
+    ensures nothing { page ≡ used → (F.state flash.new).operations ≡ (F.state flash.old).operations }
     ensures cause { IsErrOf result PageFault.Flash → HasRisenBy 1 (F.state flash.old).faults (F.state flash.new).faults }
 {
     if page == used {

@@ -1,5 +1,5 @@
 //! The places of current records, and the look at a log that finds them.
-ghost use Rattle.std.specs.Prelude.{◌≡◌, ◌≢◌, ◌<◌, ◌≤◌, ◌==◌, ◌&&◌, ℕ, if◌then◌else◌, Some, None, IfOk, IfSome, IfNone, IsErrOf, Contains, length, slice_index_or};
+ghost use Rattle.std.specs.Prelude.{◌≡◌, ◌≢◌, ◌+◌, ◌<◌, ◌≤◌, ◌==◌, ◌&&◌, ℕ, if◌then◌else◌, Some, None, IfOk, IfSome, IfNone, IsErrOf, Contains, length, slice_index_or};
 ghost use Rattle.std.specs.List.{AllPairs};
 ghost use Rattle.flt_flash.specs.Image.{sector_at};
 ghost use Rattle.flt_flash.specs.State.{OnlyReads, HasRisenBy};
@@ -96,6 +96,7 @@ pub fn find_places<F: Flash>(
         (held_in used numbers.now (sector_at (F.state flash.old).image sector))) }
     ensures size { length places.new ≡ length numbers.now }
     ensures reads { OnlyReads (F.state flash.old) (F.state flash.new) }
+    ensures operations { (F.state flash.new).operations + 1 ≤ (F.state flash.old).operations + used }
     ensures cause { IsErrOf result PageFault.Flash → HasRisenBy 1 (F.state flash.old).faults (F.state flash.new).faults }
 {
     forget(places);

@@ -40,6 +40,7 @@ pub fn current_sector<F: Flash>(
     requires most { used ≤ (F.state flash.old).pages }
     ensures current { TellsOrFails result (told_current (current used (F.state flash.old).image)) }
     ensures reads { OnlyReads (F.state flash.old) (F.state flash.new) }
+    ensures operations { (F.state flash.new).operations ≤ (F.state flash.old).operations + 4 }
     ensures cause { IsErrOf result PageFault.Flash → HasRisenBy 1 (F.state flash.old).faults (F.state flash.new).faults }
 {
     let first = gates(flash, 0, used)?;
@@ -81,6 +82,7 @@ pub fn set_up_flash<F: Flash>(flash: &mut F, used: u16) -> Result<(), FlashFaile
     ensures wear { OnOk result ((F.state flash.new).wear ≡ slice_set (F.state flash.old).wear 0 (counted (slice_index (F.state flash.old).wear 0))) }
     ensures left { HoldsNothing used (F.state flash.new).image }
     ensures runs { MakesOperations (F.state flash.old) (F.state flash.new) }
+    ensures operations { (F.state flash.new).operations ≤ (F.state flash.old).operations + 3 }
     ensures cause { OnErr result (HasRisenBy 1 (F.state flash.old).faults (F.state flash.new).faults) }
 {
     begin(flash, 0, used, 1)?;

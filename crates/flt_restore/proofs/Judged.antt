@@ -12,9 +12,7 @@ use Rattle.flt_store_model.specs.Holding.{Generation, Fault, held_by, either_cop
 use Rattle.flt_restore.specs.declared.commit.CommitCopy.{CommitCopy}
 use Rattle.flt_restore.specs.declared.fault.StartFault.{StartFault}
 use Rattle.flt_restore.specs.declared.fault.StartFault.TheVariants.{Flash, Damaged, OtherConfig, SequenceSpent}
-use Rattle.flt_restore.specs.Found.{Reads}
 use Rattle.flt_restore.specs.Judging.{Tells, IsReadFrom, IsOfCopy, IsSource}
-use Rattle.flt_restore.proofs.Telling.{same_values}
 use Rattle.flt_restore.specs.Restored.{HasBytes, IsJudged, generation, IsCopy, IsCommitOf, IsRestored, Refuses}
 
 -- ---- the copy that was read
@@ -52,15 +50,6 @@ pub only_itself : (content : Content) → HasBytes content → only_bytes conten
 only_itself missing has = absurd has
 only_itself invalid has = absurd has
 only_itself (bytes raw) has = refl
-
--- What counts as the commit does so from an earlier state on.
-pub source_from : (start before after : BlocksState) (content : Content) (copy : ℕ) → Reads start before → IsSource before after content copy → IsSource start after content copy
-source_from start before after content copy reads source = elim source [
-  | inl either ↦ inl (
-      subst (λ (value : ℕ → Content). (content ≡ either_copy (value first_commit) (value second_commit)) × IsOfCopy (value first_commit) (value second_commit) content copy) (same_values start before reads) either
-      )
-  | inr second ↦ inr (second.0 ∙ reads.values second_commit, second.1, second.2, omega (arith, reads.follows.counts, second.3))
-]
 
 -- ---- the answers, from the state at which the commit was read
 module _ (c : Config) (start before after : BlocksState) (values : before.value ≡ start.value) (content : Content) (copy : ℕ) (source : IsSource start before content copy)

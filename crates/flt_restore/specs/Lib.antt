@@ -4,3 +4,4 @@ pub mod Judging
 pub mod Restored
 pub mod Unread
 pub mod Told
+pub mod Examples

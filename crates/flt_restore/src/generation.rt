@@ -7,7 +7,7 @@ ghost use Rattle.flt_store_model.specs.Form.{IsCommit};
 ghost use Rattle.flt_store_model.specs.Holding.{held_by, named, parts_read, with_named};
 ghost use Rattle.flt_restore.specs.Found.{content_of, Reads};
 ghost use Rattle.flt_restore.specs.declared.fault.StartFault.TheVariants.{Flash};
-ghost use Rattle.flt_restore.specs.Unread.{IsPartUnread};
+ghost use Rattle.flt_restore.specs.Unread.{IsNamedUnread, IsPartUnread};
 ghost use Rattle.flt_restore.specs.Judging.{IsReadFrom, Tells};
 ghost use Rattle.flt_restore.specs.Restored.{generation};
 
@@ -40,7 +40,7 @@ fn read_part<B: Blocks + Drop>(
     ensures refused { IfErr result (Tells config.now (driver_of nvm.old) (driver_of nvm.new)
         (with_named config.now (driver_of nvm.old).value commit.now id out.old)) }
     ensures states { length out.new.events.items ≡ length config.now.events.items }
-    ensures unread { IsErrOf result Flash → IsPartUnread config.now (driver_of nvm.old) (driver_of nvm.new) }
+    ensures unread { IsErrOf result Flash → IsPartUnread config.now commit.now (driver_of nvm.old) (driver_of nvm.new) }
     ensures reads { Reads (driver_of nvm.old) (driver_of nvm.new) }
     ensures table { table_of nvm.new ≡ table_of nvm.old }
 {
@@ -73,7 +73,7 @@ fn read_parts<B: Blocks + Drop>(
     ensures told { OnOk result (parts_read config.now (driver_of nvm.old).value commit.now parts ≡ Ok out.new) }
     ensures refused { IfErr result (Tells config.now (driver_of nvm.old) (driver_of nvm.new)
         (parts_read config.now (driver_of nvm.old).value commit.now parts)) }
-    ensures unread { IsErrOf result Flash → IsPartUnread config.now (driver_of nvm.old) (driver_of nvm.new) }
+    ensures unread { IsErrOf result Flash → IsPartUnread config.now commit.now (driver_of nvm.old) (driver_of nvm.new) }
     ensures reads { Reads (driver_of nvm.old) (driver_of nvm.new) }
     ensures table { table_of nvm.new ≡ table_of nvm.old }
 {
@@ -97,7 +97,7 @@ fn read_generation<B: Blocks + Drop>(
     ensures told { IfOk result (λ commit. named config.now (driver_of nvm.old).value (content_of held) ≡ Ok (generation commit out.new)) }
     ensures source { IfOk result (λ commit. IsReadFrom config.now (content_of held) copy commit) }
     ensures refused { IfErr result (Tells config.now (driver_of nvm.old) (driver_of nvm.new) (named config.now (driver_of nvm.old).value (content_of held))) }
-    ensures unread { IsErrOf result Flash → IsPartUnread config.now (driver_of nvm.old) (driver_of nvm.new) }
+    ensures unread { IsErrOf result Flash → IsNamedUnread config.now (content_of held) (driver_of nvm.old) (driver_of nvm.new) }
     ensures reads { Reads (driver_of nvm.old) (driver_of nvm.new) }
     ensures table { table_of nvm.new ≡ table_of nvm.old }
 {
@@ -137,7 +137,7 @@ pub(crate) fn read_image<B: Blocks + Drop>(
     ensures source { IfOk result (λ commit. IsReadFrom config.now (content_of source.held) source.copy commit) }
     ensures refused { IfErr result (Tells config.now (driver_of nvm.old) (driver_of nvm.new)
         (held_by config.now (driver_of nvm.old).value (content_of source.held))) }
-    ensures unread { IsErrOf result Flash → IsPartUnread config.now (driver_of nvm.old) (driver_of nvm.new) }
+    ensures unread { IsErrOf result Flash → IsNamedUnread config.now (content_of source.held) (driver_of nvm.old) (driver_of nvm.new) }
     ensures reads { Reads (driver_of nvm.old) (driver_of nvm.new) }
     ensures table { table_of nvm.new ≡ table_of nvm.old }
 {

@@ -4,7 +4,7 @@
 //! above starts up by `restore`, whose contract is in `specs/Restored`: the answer is what the image holds, or, if the first
 //! copy of the commit can't be read, what it holds by the second. `judge` is the same, but ignores the sequence number. After a
 //! failed save the store learns the bytes of the blocks that a commit names by `read_blocks` (`specs/Learning`). Nothing here
-//! writes a block.
+//! writes a block. In `worked` are reads that failed, and which of them are of a block that a start-up needs.
 #![tactic(auto)]
 
 mod commit;
@@ -16,6 +16,7 @@ mod named;
 mod pages;
 mod reading;
 mod restoring;
+pub mod worked;
 
 pub use commit::{CommitCopy, Restored};
 pub use fault::StartFault;

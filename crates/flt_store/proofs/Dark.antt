@@ -1,5 +1,5 @@
 -- What failed behind a mount, told of the whole start-up.
-use Rattle.std.proofs.Common.{◌≡◌, ◌⊎◌, inl, inr, ℕ, ◌-◌, ◌≤◌, Bool, true, false, List, length, Err, ◌∙◌, refl, sym, subst, arith}
+use Rattle.std.proofs.Common.{◌≡◌, ◌⊎◌, inl, inr, ℕ, ◌-◌, ◌≤◌, Bool, true, false, List, length, Some, Err, ◌∙◌, refl, sym, subst, arith}
 use Rattle.std.specs.Prelude.{IsTrue, IsFalse}
 use Rattle.flt_flash.specs.Content.{bytes}
 use Rattle.flt_flash.specs.Blocks.{BlocksState}
@@ -23,8 +23,9 @@ use Rattle.flt_store.proofs.Causes.{was_flash}
 use Rattle.flt_restore.specs.Restored.{IsMarkDue}
 use Rattle.flt_restore.specs.Told.{told_of}
 
-pub write_at_once : (number : ℕ) (raw : List ℕ) (before after : BlocksState) → GivesInAJob number (bytes raw) (length raw) before after (Err FlashFault) → FailsToWrite number raw before after
-write_at_once number raw before after fails = record { first = before; last = after; earlier = no_call before; fails = fails; later = no_call after }
+pub write_at_once : (number : ℕ) (raw : List ℕ) (before after : BlocksState) → GivesInAJob number (bytes raw) (length raw) before after (Err FlashFault) → after.last_failed ≡ Some number
+    → FailsToWrite number raw before after
+write_at_once number raw before after fails named = record { first = before; last = after; earlier = no_call before; fails = fails; later = no_call after; named = named }
 
 -- Where nothing but the mark was written before it.
 pub commit_from : (before middle after : BlocksState) → Follows before middle → OthersKept mark_number before middle → IsCommitUnmended middle after → IsCommitUnmended before after
@@ -50,6 +51,7 @@ module _ (before middle after : BlocksState) (so_far : Follows before middle) (s
       earlier = more_calls before middle unwritten.first so_far unwritten.earlier;
       fails = unwritten.fails;
       later = unwritten.later;
+      named = unwritten.named;
     },
   )
 

@@ -1,5 +1,5 @@
 -- What failed where a start-up, or a save, answers that the flash failed it, and what a start-up writes of an image that it refuses.
-use Rattle.std.specs.Prelude.{◌≡◌, ◌⊎◌, ℕ, ◌-◌, ◌≤◌, Bool, List, length, Ok, Err, IsFalse}
+use Rattle.std.specs.Prelude.{◌≡◌, ◌⊎◌, ℕ, ◌-◌, ◌≤◌, Bool, List, length, Some, Ok, Err, IsFalse}
 use Rattle.flt_flash.specs.Content.{bytes}
 use Rattle.flt_flash.specs.Blocks.{BlocksState}
 use Rattle.flt_flash.specs.Calls.{Follows, OthersKept, SameImage}
@@ -18,13 +18,15 @@ use Rattle.flt_restore.specs.Unread.{IsImageUnread}
 use Rattle.flt_store.specs.Cause.{FailsThrice}
 use Rattle.flt_restore.specs.Restored.{IsMarkDue}
 
--- Among these calls three writes in a row of these bytes to a number were failed by the flash.
+-- Among these calls three writes in a row of these bytes to a number were failed by the flash, and of all its failures the last one was of
+-- this number.
 pub record FailsToWrite (number : ℕ) (raw : List ℕ) (before after : BlocksState) : Type 0 where
   pub first : BlocksState
   pub last : BlocksState
   pub earlier : Follows before first
   pub fails : GivesInAJob number (bytes raw) (length raw) first last (Err Flash)
   pub later : Follows last after
+  pub named : after.last_failed ≡ Some number
 
 -- The mark had to be written, and could not be.
 abbrev pub IsMarkUnwritten : Config → BlocksState → BlocksState → Type 0

@@ -1,7 +1,7 @@
 //! Worked examples of the definitions of the drivers, which the checker computes. The values that are expected are written by hand.
 ghost use Rattle.flt_driver_tests.specs.UnitExamples.{NextWrites, GatesInBytes, PlacesHold, DamageOfPlaces, MutedUnits};
 ghost use Rattle.flt_driver_tests.specs.WordExamples.{EachWord};
-ghost use Rattle.flt_driver_tests.specs.CostExamples.{OperationsAtMost, EraseCallsAtMost, SwitchCosts, ReadsOfBytes, StoresOfBytes, WearIsEven};
+ghost use Rattle.flt_driver_tests.specs.CostExamples.{OperationsAtMost, EraseCallsAtMost, SwitchCosts, MountsOfDrivers, ReadsOfBytes, StoresOfBytes, WearIsEven};
 
 /// The place and the sequence number of a block's next write.
 pub fn next_writes()
@@ -44,8 +44,9 @@ pub fn switch_costs()
     ensures { SwitchCosts }
 {}
 
-/// What reads and writes of a block of 96 bytes cost at most.
+/// What a mount, and what reads and writes of a block of 96 bytes, cost at most.
 pub fn costs_of_bytes()
+    ensures mounts { MountsOfDrivers }
     ensures reads { ReadsOfBytes }
     ensures stores { StoresOfBytes }
 {}

@@ -2,9 +2,8 @@
 ghost use Rattle.std.specs.Prelude.{◌≡◌, ◌≤◌, ◌<◌, ◌+◌, ◌++◌, length, IsFalse, IfOk, OnOk};
 ghost use Rattle.flt_flash.specs.Content.{bytes as holding};
 ghost use Rattle.flt_nvm.specs.Driver.{driver_of as driver_beneath, table_of};
-ghost use Rattle.flt_flash.specs.Calls.{SameValues};
+ghost use Rattle.flt_flash.specs.Calls.{ReadsAlone, SameValues};
 ghost use Rattle.flt_nvm.specs.Leaves.{FlashTakesThree, Gives, GotOf};
-ghost use Rattle.flt_nvm.specs.Tries.{ReadsAlone};
 ghost use Rattle.flt_store_model.specs.Form.{application_length};
 ghost use Rattle.flt_store_model.specs.Layout.{applications, application_number};
 ghost use Rattle.flt_image.specs.Table.{block_table};

@@ -32,6 +32,7 @@ loop-position-preserved g c =
         image = c.look.ensures.reads.image ∙ before.reads.image;
         wear = c.look.ensures.reads.wear ∙ before.reads.wear;
       };
+      operations = omega (arith, c.look.ensures.operations, before.operations);
       size = search rules;
       sound = sound_on c.args.numbers.now units at within c.in-Ok.held told before.sound;
       table = table_on c.args.numbers.now units at within c.loop-position.table c.in-Ok.held inside told before.table;

@@ -1,6 +1,9 @@
-use Rattle.std.proofs.Common.{inr, sym, ap, arith}
+use Rattle.std.proofs.Common.{◌≤◌, inr, sym, ap, arith}
 use Rattle.flt_flash.specs.Image.{sector_at}
 use Rattle.flt_flash.proofs.Following.{no_reads, reads_on}
+use Rattle.flt_sector_model.specs.declared.log.Item.{Item}
+use Rattle.flt_sector_model.specs.declared.log.Item.TheVariants.{End, Torn, Kept}
+use Rattle.flt_pages.specs.First.{reads_of}
 use Rattle.flt_pages.specs.Told.{told}
 use Rattle.flt_pages.proofs.items.item.Goals as goal
 
@@ -56,3 +59,14 @@ returns-in-None-clause-reads g c = reads_on c.in_ok-head.ensures.reads c.in_ok-b
 
 pub returns-in-None-clause-operations : goal.returns-in-None-clause-operations
 returns-in-None-clause-operations g c = omega (arith, c.in_ok-head.ensures.operations, c.in_ok-bytes-in-Record.ensures.operations)
+
+one_at_least : (item : Item) → 1 ≤ reads_of item
+one_at_least End = omega arith
+one_at_least Torn = omega arith
+one_at_least (Kept block length valid complete) = omega arith
+
+pub returns-in-Whole-clause-costs : goal.returns-in-Whole-clause-costs
+returns-in-Whole-clause-costs g c = omega (arith, c.in_ok-head.ensures.operations, one_at_least c.in-Whole.item)
+
+pub returns-in-Some-clause-costs : goal.returns-in-Some-clause-costs
+returns-in-Some-clause-costs g c = omega (arith, c.in_ok-head.ensures.operations, c.in_ok-bytes-in-Record.ensures.operations)

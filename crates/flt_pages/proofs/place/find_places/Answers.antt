@@ -1,8 +1,11 @@
-use Rattle.std.proofs.Common.{◌≡◌, ◌+◌, ◌-◌, ℕ, List, Ok, Err, Option, None, sym, ◌∙◌, ap, subst, arith, get_or}
+use Rattle.std.proofs.Common.{◌≡◌, ◌≤◌, ◌+◌, ◌-◌, ℕ, inl, inr, List, Ok, Err, Option, None, sym, ◌∙◌, ap, subst, arith, get_or}
+use Rattle.std.proofs.lemmas.Bool.{cases_lt}
 use Rattle.flt_flash.specs.Image.{sector_at}
 use Rattle.flt_flash.proofs.Following.{no_reads, reads_on}
 use Rattle.flt_flash.specs.Blocks.{byte_pages}
 use Rattle.flt_sector_model.specs.Log.{item_at, log, first_written}
+use Rattle.flt_sector_model.specs.declared.log.Item.{Item}
+use Rattle.flt_pages.specs.First.{reads_of}
 use Rattle.flt_pages.specs.Told.{TellsOrFails, told_end}
 use Rattle.flt_pages.proofs.Scanning.{GoesOn, from_start, item_told, torn_on, kept_on, at_end, at_fault, handed_on, flash_handed, item_fault, blank_fault, blank_end}
 use Rattle.flt_pages.specs.declared.place.RecordPlace.{RecordPlace}
@@ -98,6 +101,7 @@ pub log-init : goal.log-init
 log-init g c = record {
   reads = no_reads (g.F.Flash.state c.args.flash.now);
   goes_on = from_start c.args.used c.args.numbers.now (sector_at (g.F.Flash.state c.args.flash.now).image c.args.sector) c.requires.least;
+  operations = omega arith;
   size = c.forget.ensures.size ∙ c.requires.size;
   seeks = λ k within. subst (λ (found : Option RecordPlace). Seeks c.args.used c.args.numbers.now (sector_at (g.F.Flash.state c.args.flash.now).image c.args.sector) (get_or c.args.numbers.now k 0) 2 found)
       (sym (c.forget.ensures.none k (omega (arith, within, c.requires.size))))
@@ -135,6 +139,8 @@ log-preserved-in-Torn g c =
     record {
       reads = reads_on c.log.invariant.reads c.in_ok-item.ensures.reads;
       goes_on = torn_on c.args.used c.args.numbers.now pages c.log.page c.log.invariant.goes_on found;
+      operations = (let cost = subst (λ (item : Item). (g.F.Flash.state c.item.new.flash).operations ≤ (g.F.Flash.state c.log.flash).operations + reads_of item) c.in-Torn.is c.in_ok-item.ensures.costs in
+          omega (arith, cost, c.log.invariant.operations));
       size = c.log.invariant.size;
       seeks = λ k within. seek_on c.args.used c.args.numbers.now pages (get_or c.args.numbers.now k 0) c.log.page (get_or c.log.places k None) (c.log.invariant.seeks k within) found;
     }
@@ -150,6 +156,7 @@ log-preserved g c =
     record {
       reads = reads_on c.log.invariant.reads c.in_ok-item.ensures.reads;
       goes_on = subst (GoesOn c.args.used c.args.numbers.now pages) next (kept_on c.args.used c.args.numbers.now pages c.log.page c.log.invariant.goes_on c.in-Kept.block c.in-Kept.length c.in-Kept.valid c.in-Kept.complete found);
+      operations = omega (arith, c.in_ok-item.ensures.operations, c.log.invariant.operations, next);
       size = c.note.ensures.size ∙ c.log.invariant.size;
       seeks = λ k within. subst (λ n. Seeks c.args.used c.args.numbers.now pages (get_or c.args.numbers.now k 0) n (get_or c.note.new.places k None)) next
           (subst (λ (place : Option RecordPlace). Seeks c.args.used c.args.numbers.now pages (get_or c.args.numbers.now k 0) (c.log.page + 2 + byte_pages c.in-Kept.length) place) (sym (c.note.ensures.noted k within))
@@ -175,3 +182,20 @@ returns-in-End-clause-places g c =
     ∙ item_told c.args.sector c.in_ok-item.field-0 (item_at c.args.used c.args.numbers.now (sector_at (g.F.Flash.state c.log.flash).image c.args.sector) c.log.page) c.in_ok-item.ensures.item
     ∙ (λ i. Ok (c.in-End.is i)) in
     λ k within. found_at c.args.used c.args.numbers.now pages (get_or c.args.numbers.now k 0) c.log.page (get_or c.log.places k None) (c.log.invariant.seeks k within) found
+
+-- An item that is damaged is one before the end of the sector, where two pages at most were read of it.
+pub returns-in_err-item-clause-operations : goal.returns-in_err-item-clause-operations
+returns-in_err-item-clause-operations g c = elim (cases_lt c.log.page c.args.used) [
+  | inl below ↦ omega (arith, below, c.in_err-item.ensures.operations, c.log.invariant.operations)
+  | inr past ↦ (let last : c.log.page ≡ c.args.used = omega (arith, past, c.log.invariant.goes_on.below) in omega (arith, last, c.in_err-item.ensures.nothing last, c.log.invariant.operations))
+]
+
+pub returns-in_err-blank_from-in-End-clause-operations : goal.returns-in_err-blank_from-in-End-clause-operations
+returns-in_err-blank_from-in-End-clause-operations g c =
+    let cost = subst (λ (item : Item). (g.F.Flash.state c.item.new.flash).operations ≤ (g.F.Flash.state c.log.flash).operations + reads_of item) c.in-End.is c.in_ok-item.ensures.costs in
+    omega (arith, cost, c.in_err-blank_from-in-End.ensures.operations, c.log.invariant.operations, c.log.invariant.goes_on.below)
+
+pub returns-in-End-clause-operations : goal.returns-in-End-clause-operations
+returns-in-End-clause-operations g c =
+    let cost = subst (λ (item : Item). (g.F.Flash.state c.item.new.flash).operations ≤ (g.F.Flash.state c.log.flash).operations + reads_of item) c.in-End.is c.in_ok-item.ensures.costs in
+    omega (arith, cost, c.in_ok-blank_from-in-End.ensures.operations, c.log.invariant.operations, c.log.invariant.goes_on.below)

@@ -1,4 +1,4 @@
-use Rattle.std.proofs.Common.{◌≡◌, ◌<◌, ℕ, ◌-◌, None, get_or, length}
+use Rattle.std.proofs.Common.{◌≡◌, ◌<◌, ◌≤◌, ℕ, ◌+◌, ◌-◌, None, get_or, length}
 use Rattle.flt_flash.specs.Image.{sector_at}
 use Rattle.flt_flash.specs.State.{OnlyReads}
 use Rattle.flt_pages.proofs.Scanning.{GoesOn}
@@ -9,6 +9,7 @@ abbrev pub invariant-log : goal.invariant-log
 invariant-log g l = record {
   reads : OnlyReads (g.F.Flash.state l.initial.flash) (g.F.Flash.state l.flash);
   goes_on : GoesOn l.used l.numbers (sector_at (g.F.Flash.state l.initial.flash).image l.sector) l.page;
+  operations : (g.F.Flash.state l.flash).operations + 2 ≤ (g.F.Flash.state l.initial.flash).operations + l.page;
   size : length l.places ≡ length l.numbers;
   seeks : (k : ℕ) → k < length l.numbers → Seeks l.used l.numbers (sector_at (g.F.Flash.state l.initial.flash).image l.sector) (get_or l.numbers k 0) l.page (get_or l.places k None);
 }

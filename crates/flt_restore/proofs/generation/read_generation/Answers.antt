@@ -8,6 +8,7 @@ use Rattle.flt_restore.specs.declared.fault.StartFault.{StartFault}
 use Rattle.flt_restore.specs.Found.{content_of}
 use Rattle.flt_restore.specs.Judging.{Tells}
 use Rattle.flt_restore.proofs.Telling.{handed_on}
+use Rattle.flt_restore.proofs.Failing.{was_flash}
 use Rattle.flt_restore.proofs.Naming.{named_first, named_invalid, no_commit, named_commit, parts_refused, read_form}
 use Rattle.flt_restore.proofs.generation.read_generation.Goals as goal
 
@@ -55,3 +56,15 @@ returns-in_ok-read_parts-in-Some-clause-source g c =
     let held : content_of c.args.held ≡ bytes c.in-Bytes.bytes.items = ap content_of c.in-Bytes.is in
     let is : Some c.in-Some.commit ≡ commit_in c.args.config.now c.in-Bytes.bytes.items = sym c.in-Some.is ∙ c.get_commit.ensures ∙ ap (commit_in c.args.config.now) c.deref.ensures.0 in
     (refl, held, sym is)
+
+pub returns-in_err-read_parts-in-Some-clause-unread : goal.returns-in_err-read_parts-in-Some-clause-unread
+returns-in_err-read_parts-in-Some-clause-unread g c =
+    λ flash.
+    let is : Some c.in-Some.commit ≡ commit_in c.args.config.now c.in-Bytes.bytes.items = sym c.in-Some.is ∙ c.get_commit.ensures ∙ ap (commit_in c.args.config.now) c.deref.ensures.0 in
+    record {
+      raw = c.in-Bytes.bytes.items;
+      holds = ap content_of c.in-Bytes.is;
+      commit = c.in-Some.commit;
+      read = sym is;
+      part = c.in_err-read_parts-in-Some.ensures.unread (was_flash c.from_residual.result _ c.from_residual.ensures.1 flash);
+    }

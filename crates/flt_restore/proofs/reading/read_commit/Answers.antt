@@ -1,5 +1,6 @@
 use Rattle.std.proofs.Common.{List, sym, subst, arith, inl}
 use Rattle.flt_nvm.specs.declared.table.BlockCfg.{BlockCfg}
+use Rattle.flt_nvm.specs.Driver.{driver_of}
 use Rattle.flt_nvm.specs.Table.{HasPlace}
 use Rattle.flt_restore.proofs.Rows.{commit_has_place}
 use Rattle.flt_restore.proofs.Failing.{on_err}
@@ -12,4 +13,4 @@ pub look_up-requires-clause-place : goal.look_up-requires-clause-place
 look_up-requires-clause-place g c = subst (λ (table : List BlockCfg). HasPlace table 2 0) (sym c.requires.table) (commit_has_place 0 (omega arith))
 
 pub returns-in-Err-Flash-clause-unread : goal.returns-in-Err-Flash-clause-unread
-returns-in-Err-Flash-clause-unread g c = on_err c.read_source-in-Err-Flash.result (λ rose. inl (omega (arith, c.in-Err-Flash.ensures.flash, rose))) c.read_source-in-Err-Flash.ensures.flash
+returns-in-Err-Flash-clause-unread g c = on_err c.read_source-in-Err-Flash.result (λ second. inl (driver_of c.read_source.new.nvm, c.in-Err-Flash.ensures.unread, second)) c.read_source-in-Err-Flash.ensures.unread

@@ -1,3 +1,4 @@
+use Rattle.std.proofs.Common.{arith}
 use Rattle.flt_fee.specs.Fee.{state_by, uncounted_of}
 use Rattle.flt_fee.specs.Wear.{StaysEven}
 use Rattle.flt_fee.proofs.Wearing.{unless_fault}
@@ -12,4 +13,7 @@ returns-clause-even g c =
     (StaysEven old.used (g.F.Flash.state old.flash) (g.F.Flash.state new.flash)) c.look.ensures.calls c.look.ensures.even
 
 pub returns-clause-calls : goal.returns-clause-calls
-returns-clause-calls g c = calls_recounted c.args.self.now.calls c.look.new.self.calls (uncounted_of g.F.Flash.state c.args.self.now) (uncounted_of g.F.Flash.state c.look.new.self) c.look.ensures.calls
+returns-clause-calls g c = calls_recounted _ _ _ _ (uncounted_of g.F.Flash.state c.args.self.now) (uncounted_of g.F.Flash.state c.look.new.self) c.look.ensures.calls
+
+pub returns-clause-costs : goal.returns-clause-costs
+returns-clause-costs g c = omega (arith, c.look.ensures.operations, c.args.self.now.least)

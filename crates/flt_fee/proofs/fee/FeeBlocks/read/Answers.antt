@@ -1,31 +1,15 @@
-use Rattle.std.proofs.Common.{◌≡◌, ap, sym, subst, ◌∙◌, arith}
-use Rattle.flt_flash.specs.Calls.{ReadsContent}
-use Rattle.flt_flash.specs.Content.{Content, size_of}
-use Rattle.flt_flash.specs.Image.{sector_at}
-use Rattle.flt_flash.specs.declared.blocks.Found.TheVariants.{Bytes}
-use Rattle.flt_sector_model.specs.Blocks.{block_value}
-use Rattle.flt_fee.proofs.Placed.{valid_read, valid_size}
+use Rattle.flt_fee.specs.Fee.{state_by, uncounted_of}
+use Rattle.flt_fee.specs.Wear.{StaysEven}
+use Rattle.flt_fee.proofs.Wearing.{unless_fault}
+use Rattle.flt_flash.proofs.Recounted.{reads_recounted}
 use Rattle.flt_fee.proofs.fee.FeeBlocks.read.Goals as goal
 
-pub returns-in_ok-read_record-in-Some-clause-found : goal.returns-in_ok-read_record-in-Some-clause-found
-returns-in_ok-read_record-in-Some-clause-found g c =
-    let self = c.settle.new.self in
-    let flash = g.F.Flash.state self.flash in
-    let shape = g.met.F.Flash.shape self.flash in
-    subst (λ (content : Content). ReadsContent content (Bytes c.in-Some.place.length) c.args.out.now c.read_record.new.out) (c.in_ok-settle.ensures.values c.args.block)
-    (valid_read (sector_at flash.image self.sector) self.used (block_value self.used self.numbers flash.image c.args.block) c.in-Some.place
-    (shape.bytes self.sector self.sectors) (omega (arith, self.within, shape.pages self.sector self.sectors)) c.if-place.true c.in-Some.ensures c.args.out.now c.read_record.new.out
-    c.in_ok-read_record-in-Some.ensures.read)
-
-pub returns-in_ok-read_record-in-Some-clause-costs : goal.returns-in_ok-read_record-in-Some-clause-costs
-returns-in_ok-read_record-in-Some-clause-costs g c =
-    λ fresh none.
+pub returns-clause-even : goal.returns-clause-even
+returns-clause-even g c =
     let old = c.args.self.now in
-    let self = c.settle.new.self in
-    let flash = g.F.Flash.state self.flash in
-    let shape = g.met.F.Flash.shape self.flash in
-    let size = valid_size (sector_at flash.image self.sector) self.used (block_value self.used self.numbers flash.image c.args.block) c.in-Some.place
-    (shape.bytes self.sector self.sectors) (omega (arith, self.within, shape.pages self.sector self.sectors)) c.if-place.true c.in-Some.ensures in
-    let long : size_of (block_value old.used old.numbers (g.F.Flash.state old.flash).image c.args.block) ≡ c.in-Some.place.length = ap size_of (sym (c.in_ok-settle.ensures.values c.args.block)) ∙ size in
-    let stands : (g.F.Flash.state self.flash).operations ≡ (g.F.Flash.state old.flash).operations = λ i. (g.F.Flash.state ((c.in_ok-settle.ensures.nothing fresh).1 i).flash).operations in
-    omega (arith, c.in_ok-read_record-in-Some.ensures.operations, long, stands)
+    let new = c.get-answer.new.self in
+    unless_fault (state_by old.used old.numbers old.is_stale old.has_mounted (g.F.Flash.state old.flash)) (state_by new.used new.numbers new.is_stale new.has_mounted (g.F.Flash.state new.flash)) c.get-answer.result
+    (StaysEven old.used (g.F.Flash.state old.flash) (g.F.Flash.state new.flash)) c.get-answer.ensures.reads.calls c.get-answer.ensures.even
+
+pub returns-clause-reads : goal.returns-clause-reads
+returns-clause-reads g c = reads_recounted _ _ _ _ (uncounted_of g.F.Flash.state c.args.self.now) (uncounted_of g.F.Flash.state c.get-answer.new.self) c.get-answer.ensures.reads

@@ -9,7 +9,7 @@ use Rattle.flt_store.specs.Known.{Knows}
 use Rattle.flt_store.proofs.Changed.{pages_of_later}
 use Rattle.flt_store.proofs.Costs.{switch_within}
 use Rattle.flt_store.proofs.Started.{numbered as number_of_started}
-use Rattle.flt_store_model.specs.Holding.{Generation, last_number}
+use Rattle.flt_store_model.specs.Holding.{Generation}
 use Rattle.flt_store.specs.Store.{driver_of, commit_of, kept_of, is_settled, numbered, IsReady, IsRunning}
 use Rattle.flt_store.proofs.Started.{sound_started}
 use Rattle.flt_store.proofs.Running.{alive_after, served_on, undisturbed_until, held_is_chosen, ok_map, on_ok, err_taken, err_both, chosen_on, one_of_chosen, rises_from, unfailed, unsettled_runs, told_by}

@@ -72,7 +72,8 @@ returns-then-is_due-clause-unwritten g c = λ config same flash.
     let failed = subst (λ (result : Result (Unit {0}) BlockFault). GivesInAJob mark_number (bytes c.put_mark.result) (length c.put_mark.result) before after result) flash job in (
       subst (λ (mark : Mark). IsMarkDue mark (before.value mark_number)) same due,
       write_at_once mark_number (mark_bytes (mark_of config)) before after
-          (subst (λ (held : List ℕ). GivesInAJob mark_number (bytes held) (length held) before after (Err Flash)) raw failed),
+          (subst (λ (held : List ℕ). GivesInAJob mark_number (bytes held) (length held) before after (Err Flash)) raw failed)
+          (mark_alone _ c.requires.table _ _ (c.write.ensures.named flash)),
     )
 
 pub returns-then-is_due-clause-stuck : goal.returns-then-is_due-clause-stuck
