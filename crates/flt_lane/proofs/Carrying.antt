@@ -1,31 +1,30 @@
 -- What steps carry on of the store and of the application blocks.
-use Rattle.std.proofs.Common.{◌≡◌, inl, inr, ⊎_elim, ℕ, ◌+◌, Bool, true, false, List, ◌∷◌, map, reverse, refl, ap, subst, sym, arith, ◌∙◌}
+use Rattle.std.proofs.Common.{◌≡◌, inl, inr, ⊎_elim, ℕ, ◌+◌, List, ◌∷◌, map, reverse, refl, ap, subst, sym, arith, ◌∙◌}
 use Rattle.std.specs.Prelude.{Contains}
-use Rattle.std.proofs.lemmas.Bool.{true≢false, false≢true}
 use Rattle.std.proofs.lemmas.List.Elements.{Contains-append_left, Contains-append_right}
 use mathlib.Core.List.{IsPrefix}
-use Rattle.flt_flash.specs.Content.{Content, missing, invalid, bytes as holding}
+use Rattle.flt_flash.specs.Content.{Content}
 use Rattle.flt_flash.specs.Blocks.{BlocksState}
 use Rattle.flt_flash.specs.Calls.{ArmsDriver}
 use Rattle.flt_flash.specs.declared.arm.Arm.{Arm}
 use Rattle.flt_flash.specs.declared.blocks.Blocks.{Ghosts}
 use Rattle.flt_config.specs.declared.config.Config.{Config}
 use Rattle.flt_store_model.specs.Holding.{Generation, SameApplications}
-use Rattle.flt_store_model.specs.Layout.{application_number}
 use Rattle.flt_queue.specs.Queue.{History}
 use Rattle.flt_store.specs.declared.store.Store.{Store}
-use Rattle.flt_store.specs.Store.{Gets, IsRunning, driver_of}
+use Rattle.flt_store.specs.Store.{IsRunning, driver_of}
 use Rattle.flt_turn.specs.declared.vault.Entry.{Entry}
 use Rattle.flt_turn.specs.Journal.{ops_of}
 use Rattle.flt_turn.specs.Seats.{Seated}
 use Rattle.flt_step.specs.declared.step.Step.TheVariants as steps
 use Rattle.flt_life_model.specs.Actions.{action_of}
-use Rattle.flt_life_model.specs.Applications.{AreHeld, GetsBy, HoldApplications, MayHold, answers_of, jobs_told, up_to_done}
+use Rattle.flt_life_model.specs.Applications.{AreHeld, GetsBy, HoldApplications, answers_of, jobs_told, up_to_done}
 use Rattle.flt_life_model.specs.Ordered.{Deed}
 use Rattle.flt_life_model.specs.declared.answer.StepAnswer.TheVariants as answers
 use Rattle.flt_shared.specs.Call.{Seat}
 use Rattle.flt_life_model.specs.SoFar.{IsCaused}
-use Rattle.flt_life_model.proofs.Causing.{caused_arm}
+use Rattle.flt_life_model.proofs.Causing.{caused_arm, caused_first}
+use Rattle.flt_life_model.proofs.HeldBlocks.{held_deed}
 use Rattle.flt_fork.specs.Seats.{AreJoined}
 use Rattle.flt_lane.specs.Draining.{DrainsOn}
 use Rattle.flt_fork.specs.Known.{IsKnownTo}

@@ -1,14 +1,10 @@
 -- What the calls of a drain leave of the application blocks, by what the seat of the queue knows of the journal.
 use Rattle.std.proofs.Common.{◌≡◌, ℕ, ◌≤◌, ◌+◌, ◌*◌, Bool, true, false, not, List, [], ◌∷◌, ◌++◌, Option, Some, None, reverse, refl, ap, subst, sym, arith, ◌∙◌}
-use Rattle.std.specs.Prelude.{IsFalse}
 use Rattle.std.proofs.lemmas.List.{append-nil, append_assoc, length-append}
 use Rattle.std.proofs.lemmas.List.Sums.{sum_by_push}
 use Rattle.flt_flash.specs.Content.{Content}
-use Rattle.flt_flash.specs.State.{HasRisenBy}
-use Rattle.flt_flash.specs.Calls.{Follows}
 use Rattle.flt_flash.specs.declared.blocks.Blocks.{Ghosts}
 use Rattle.flt_config.specs.declared.config.Config.{Config}
-use Rattle.flt_store_model.specs.Holding.{Generation}
 use Rattle.flt_queue.specs.declared.job.Job.{Job}
 use Rattle.flt_queue.specs.declared.job.QueueOp.{QueueOp}
 use Rattle.flt_queue.specs.declared.job.QueueOp.TheVariants as ops
@@ -18,19 +14,18 @@ use Rattle.flt_queue.specs.Call as queued
 use Rattle.flt_queue.specs.Queue as queue
 use Rattle.flt_queue.specs.Queue.{handed_out, next_of, waiting}
 use Rattle.flt_store.specs.declared.store.Store.{Store}
-use Rattle.flt_store.specs.Store.{IsRunning, driver_of}
+use Rattle.flt_store.specs.Store.{driver_of}
 use Rattle.flt_turn.specs.declared.answer.Answer.{Answer}
 use Rattle.flt_turn.specs.declared.vault.Entry.{Entry}
 use Rattle.flt_turn.specs.Journal.{entry}
 use Rattle.flt_turn.specs.Sums.{one_if}
-use Rattle.flt_life_model.specs.Answers.{Told}
 use Rattle.flt_life_model.specs.Applications.{AreHeld, job_behind}
 use Rattle.flt_life_model.specs.Draining.{Drained, calls_for, calls_for_all}
 use Rattle.flt_life_model.specs.Ordered.{Deed}
 use Rattle.flt_life_model.specs.declared.answer.StepAnswer.TheVariants as answers
 use Rattle.flt_life_model.specs.SoFar.{IsCaused}
 use Rattle.flt_fork.specs.Chain.{Chain}
-use Rattle.flt_life_model.proofs.Causing.{unspent_before}
+use Rattle.flt_life_model.proofs.Causing.{caused_same}
 use Rattle.flt_lane.specs.Draining.{DrainsOn, HasDrained, MakesJobs, TakesJob}
 use Rattle.flt_lane.specs.Living.{HoldsBy, drain_call, drains_in}
 use Rattle.flt_lane.specs.Runs.{QueueSeat}

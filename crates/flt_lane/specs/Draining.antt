@@ -1,15 +1,10 @@
 -- A drain on its way.
-use Rattle.std.specs.Prelude.{◌≡◌, ℕ, ◌+◌, ◌*◌, ◌≤◌, Bool, true, not, List, [], ◌∷◌, length, sum_by, Option, Some, None, IsFalse}
-use Rattle.flt_flash.specs.Calls.{Follows, OthersKept}
-use Rattle.flt_flash.specs.Content.{Content, bytes as holding}
-use Rattle.flt_flash.specs.State.{HasRisenBy}
+use Rattle.std.specs.Prelude.{◌≡◌, ℕ, ◌+◌, ◌*◌, ◌≤◌, Bool, not, List, [], ◌∷◌, length, sum_by, Option, Some, None}
+use Rattle.flt_flash.specs.Content.{Content}
 use Rattle.flt_flash.specs.declared.blocks.Blocks.{Ghosts}
 use Rattle.flt_config.specs.declared.config.Config.{Config}
 use Rattle.flt_store_model.specs.Holding.{Generation}
-use Rattle.flt_store_model.specs.Layout.{application_number}
-use Rattle.flt_nvm.specs.Leaves.{IsEither}
 use Rattle.flt_queue.specs.Call as queued
-use Rattle.flt_queue.specs.declared.job.Job.{Job}
 use Rattle.flt_queue.specs.Queue as queue
 use Rattle.flt_queue.specs.declared.job.QueueReply.TheVariants.{NoJob}
 use Rattle.flt_store.specs.declared.store.Store.{Store}

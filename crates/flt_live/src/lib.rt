@@ -9,8 +9,8 @@
 #![tactic(auto)]
 
 mod ear;
-mod line;
 pub mod laws;
+mod line;
 mod living;
 mod making;
 mod program;

@@ -78,11 +78,7 @@ impl<'a, R: AllocGlobal> MemShelf<'a, R> {
 }
 
 /// The bytes of a flash of so many pages: those that were kept, or blank ones.
-fn bytes_for(
-    alloc: Global,
-    kept: &mut Option<KeptImage>,
-    pages: u16,
-) -> Result<Vec<u8>, OpenFault>
+fn bytes_for(alloc: Global, kept: &mut Option<KeptImage>, pages: u16) -> Result<Vec<u8>, OpenFault>
     ensures size { IfOk result (λ bytes. length bytes.items ≡ 64 * pages) }
     ensures kept { IfOk result (λ bytes. GivesBack (kept_in kept.old) (image_in pages bytes.items)) }
 {

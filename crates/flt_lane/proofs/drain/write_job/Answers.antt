@@ -1,13 +1,11 @@
-use Rattle.std.proofs.Common.{◌≡◌, ◌∙◌, ℕ, ◌<◌, ◌*◌, Bool, true, Ok, Err, not, refl, subst, sym, arith}
-use Rattle.std.specs.Prelude.{OnOk, is_ok, IsTrue, IsFalse}
+use Rattle.std.proofs.Common.{◌≡◌, ◌<◌, true, Ok, Err, subst, sym}
+use Rattle.std.specs.Prelude.{OnOk, is_ok}
 use Rattle.std.specs.declared.result.Result.{Result}
 use Rattle.std.proofs.lemmas.Bool.{false≢true}
 use Rattle.flt_flash.specs.Content.{bytes as holding}
-use Rattle.flt_flash.specs.State.{HasRisenBy}
 use Rattle.flt_store_model.specs.Layout.{application_number}
 use Rattle.flt_nvm.specs.Leaves.{IsEither}
 use Rattle.flt_store.specs.Store.{driver_of}
-use Rattle.flt_turn.specs.Sums.{one_if}
 use Rattle.flt_life_model.specs.Draining.{WritesJob}
 use Rattle.flt_life_model.proofs.Causing.{rose_by}
 use Rattle.flt_lane.proofs.drain.write_job.Goals as goal

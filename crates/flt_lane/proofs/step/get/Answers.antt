@@ -1,16 +1,16 @@
-use Rattle.std.proofs.Common.{◌≡◌, ◌<◌, ℕ, List, ◌∷◌, refl, subst}
+use Rattle.std.proofs.Common.{◌≡◌, ℕ, List, ◌∷◌, refl}
 use Rattle.flt_config.specs.declared.config.Config.{Config}
 use Rattle.flt_flash.specs.Calls.{SameValues}
 use Rattle.flt_flash.specs.Content.{Content}
 use Rattle.flt_flash.specs.declared.blocks.Blocks.{Ghosts}
 use Rattle.flt_store_model.specs.Holding.{Generation}
-use Rattle.flt_store_model.specs.Layout.{applications, application_number}
+use Rattle.flt_store_model.specs.Layout.{application_number}
 use Rattle.flt_queue.specs.Queue.{History}
 use Rattle.flt_step.specs.declared.step.Step.TheVariants as steps
 use Rattle.flt_store.specs.declared.store.Store.{Store}
 use Rattle.flt_store.specs.Store.{IsAlive, IsRunning, driver_of}
 use Rattle.flt_life_model.specs.Answers.{Told}
-use Rattle.flt_life_model.specs.Applications.{AreHeld, GetsBy, MayHold, answers_of, jobs_told, up_to_done}
+use Rattle.flt_life_model.specs.Applications.{AreHeld, GetsBy, answers_of, jobs_told}
 use Rattle.flt_life_model.specs.Ordered.{Deed}
 use Rattle.flt_life_model.specs.declared.action.Action.TheVariants as action
 use Rattle.flt_life_model.specs.declared.answer.StepAnswer.TheVariants as answers
