@@ -18,7 +18,7 @@ use Rattle.flt_life_model.specs.Moment.{Moment, moment_of}
 use Rattle.flt_life_model.specs.declared.life.Boot.TheVariants.{Started, Dark, Refused}
 use Rattle.flt_lives.proofs.Starting.{finds, keeps, refused_is, refuses, same_moment}
 use Rattle.flt_life_model.specs.declared.life.Boot.{Boot}
-use Rattle.flt_live.specs.Begun.{Begins, IsBegunBy, without_steps}
+use Rattle.flt_live.specs.Begun.{BeginsOn, IsBegunBy, without_steps}
 
 module _ {B : Type 0} {b : Ghosts B} (c : Config) (first : BlocksState) (before after : Store B b) (powers : PowersUpDriver first (driver_of before)) where
   pub begun_started : (number : ℕ) (state start : Persist) → start ≡ state → Starts c number state before after → Fits c state → IsBegunBy c first (Started number start) after
@@ -43,12 +43,12 @@ module _ {B : Type 0} {b : Ghosts B} (c : Config) (first : BlocksState) (before 
         (refused_is c before after fault (refuses fault other) follows told (keeps c (driver_of before) (driver_of after) follows left), refl, same)
 
 -- No life is refused for the flash.
-pub refused_other : {B : Type 0} {b : Ghosts B} (c : Config) (first : BlocksState) (fault : StartFault) (store : Store B b) → Begins c first (Refused fault) store → fault ≢ faults.Flash
+pub refused_other : {B : Type 0} {b : Ghosts B} (c : Config) (first : BlocksState) (fault : StartFault) (store : Store B b) → BeginsOn c first (Refused fault) store → fault ≢ faults.Flash
 refused_other c first fault store begun = λ is. absurd (subst (λ (f : StartFault). IsBegunBy c first (Refused f) store) is begun.is).0
 
 -- On the blocks that were there.
 pub begins_by : {B : Type 0} {b : Ghosts B} (c : Config) (first : BlocksState) (before after : Store B b) (boot : Boot) → PowersUpDriver first (driver_of before) → Follows (driver_of before) (driver_of after)
-    → SameApplications (driver_of before).value (driver_of after).value → IsBegunBy c first boot after → Begins c first boot after
+    → SameApplications (driver_of before).value (driver_of after).value → IsBegunBy c first boot after → BeginsOn c first boot after
 begins_by c first before after boot powers follows same is =
     let counts = follows.counts in
     let faults = ap (λ (d : BlocksState). d.device.faults) powers.rest in

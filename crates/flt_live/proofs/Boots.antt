@@ -24,7 +24,7 @@ use Rattle.flt_lives.specs.Living.{IsLiving}
 use Rattle.flt_report.specs.Boot.{boot_line}
 use Rattle.flt_live.specs.declared.living.LifeEnd.{LifeEnd}
 use Rattle.flt_live.specs.declared.living.LifeEnd.TheVariants.{Power, Ended, Unread, Unwritten, Memory}
-use Rattle.flt_live.specs.Begun.{Begins, IsBegunBy}
+use Rattle.flt_live.specs.Begun.{BeginsOn, IsBegunBy}
 use Rattle.flt_live.specs.Heard.{Says, Talk, answers_of}
 use Rattle.flt_live.specs.Lived.{GoesOnBy, IfLost, IsCutShort, IsLifeLived, IsLostFor, TakesDarkLines, TakesLines, UnlessLost, lost_by}
 use Rattle.flt_live.proofs.Hearing.{lost_anyway, lost_cut, lost_for, rose_later}
@@ -65,7 +65,7 @@ on_taken fact result value is holds = subst (λ r. OnOk r fact) is holds
 
 module _ {B : Type 0} {b : Ghosts B} (c : Config) (number status : ℕ) (before : BlocksState) (begun last : Store B b) (unit : UnitView) (from after : Talk) (end : LifeEnd) where
   -- A life whose first line was written.
-  pub life_lived : (boot : Boot) → status ≡ status_by boot → Begins c before boot begun → (between : Talk) → Says (boot_line number boot) from between → from.write_faults ≤ between.write_faults
+  pub life_lived : (boot : Boot) → status ≡ status_by boot → BeginsOn c before boot begun → (between : Talk) → Says (boot_line number boot) from between → from.write_faults ≤ between.write_faults
       → UnlessLost end (GoesOnBy c boot before.value begun last unit between after end) → IsLostFor between.write_faults after.write_faults end
       → IfLost end (IsCutShort c [] between after) → from.read_faults ≤ after.read_faults → between.write_faults ≤ after.write_faults → IsLifeLived c number status before last unit from after end
   life_lived boot is begins between says later goes lost cut reads writes = record {
@@ -83,7 +83,7 @@ module _ {B : Type 0} {b : Ghosts B} (c : Config) (number status : ℕ) (before 
   }
 
   -- A life whose first line was not written.
-  pub life_lost : (boot : Boot) → status ≡ status_by boot → Begins c before boot begun → (fault : StreamFault) → end ≡ lost_by fault → (fault ≡ streams.Failed → Rose from.write_faults after.write_faults)
+  pub life_lost : (boot : Boot) → status ≡ status_by boot → BeginsOn c before boot begun → (fault : StreamFault) → end ≡ lost_by fault → (fault ≡ streams.Failed → Rose from.write_faults after.write_faults)
       → AppendsFront from.held after.held (boot_line number boot) → from.read_faults ≤ after.read_faults → from.write_faults ≤ after.write_faults → IsLifeLived c number status before last unit from after end
   life_lost boot is begins fault lost rose front reads writes = record {
     boot = boot;
@@ -100,7 +100,7 @@ module _ {B : Type 0} {b : Ghosts B} (c : Config) (number status : ℕ) (before 
 -- What a start-up left of a life that was started, and what follows its first line.
 module _ {B : Type 0} {b : Ghosts B} (c : Config) (before : BlocksState) (begun last : Store B b) (unit : UnitView) (between after : Talk) (end : LifeEnd) (boot : Boot) (number : ℕ) (state : Persist)
     (is : boot ≡ boots.Started number state) where
-  pub started : Begins c before boot begun → Fits c state × IsRunning c (numbered number state) (numbered number state) begun
+  pub started : BeginsOn c before boot begun → Fits c state × IsRunning c (numbered number state) (numbered number state) begun
   started begins = let how = subst (λ (it : Boot). IsBegunBy c before it begun) is begins.is in (how.2, how.3)
 
   pub started_goes : UnlessLost end (TakesLines c (numbered number state) before.value (driver_of begun) between after unit last end) → UnlessLost end (GoesOnBy c boot before.value begun last unit between after end)

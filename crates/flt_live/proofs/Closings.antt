@@ -11,7 +11,7 @@ use Rattle.flt_io.specs.declared.stream.StreamFault.{StreamFault}
 use Rattle.flt_io.specs.declared.stream.StreamFault.TheVariants as streams
 use Rattle.flt_live.specs.Heard.{Talk, talk}
 use Rattle.flt_file.specs.declared.opening.OpenFault.{OpenFault}
-use Rattle.flt_live.specs.Span.{HavePassed}
+use Rattle.flt_live.specs.Span.{LivesPassed}
 use Rattle.flt_live.specs.Session.{EndsFor, IsEndOf, IsIdle, SessionEnd, Unreadable, Refused, Other, Closed, Unread, Ended, HasCause, IsSession, Reading, status_due, status_of_shelf, status_told}
 use Rattle.flt_live.proofs.Hearing.{rose_later}
 
@@ -29,7 +29,7 @@ ends_for P Q before after status more (inl ended) = inl (record { end = ended.en
 ends_for P Q before after status more (inr cut) = inr cut
 
 -- A flash was not given, and bytes say why, or were not written.
-pub shelf_ends : (tells : Bool) (script : ScriptContent) (fault : OpenFault) (before between after : Talk) (status : ℕ) → IsIdle script.lives → HavePassed tells script.config before between → after.ahead ≡ between.ahead → before.write_faults ≤ between.write_faults
+pub shelf_ends : (tells : Bool) (script : ScriptContent) (fault : OpenFault) (before between after : Talk) (status : ℕ) → IsIdle script.lives → LivesPassed tells script.config before between → after.ahead ≡ between.ahead → before.write_faults ≤ between.write_faults
     → ((status ≡ status_of_shelf fault) × ((text : List ℕ) × Appends between.held after.held text)) ⊎ ((status ≡ 7) ⊎ ((status ≡ 4) × Rose between.write_faults after.write_faults))
     → EndsFor (IsEndOf tells script before after) before after status
 shelf_ends tells script fault before between after status idle lived ahead later (inl (is, told)) =

@@ -37,24 +37,24 @@ use Rattle.flt_life_model.proofs.HeldBlocks.{apart, held_beside, held_by, held_d
 use Rattle.flt_life_model.proofs.Keeping.{kept_entry, kept_other}
 use Rattle.flt_lives.specs.Living.{IsLiving}
 use Rattle.flt_live.specs.Draining.{HasDrained}
-use Rattle.flt_live.specs.Made.{Finds, IsAnswered, IsMidway, IsSave, MakesStep, Made, deeds_in, deeds_of, journal_of, with_calls, with_deed_by, with_save}
+use Rattle.flt_live.specs.Made.{Finds, IsAnswered, IsMidway, IsSave, MakesStep, Made, ReadsSo, SavesSo, deeds_made, deeds_of, journal_of, with_calls, with_deed_by, with_save}
 
 module _ {B : Type 0} {b : Ghosts B} (c : Config) (step : Step) (told : Told) where
   midway_more : (action : Action) → action_of step ≡ action → (first : Generation) (found : ℕ → Content) (begun : BlocksState) (made : List Made) (unit next_unit : UnitView) (queue next_queue : JobQueue) (store next_store : Store B b)
       (mid : IsMidway c first found begun made unit queue store) (jobs : History)
-      → IsLiving c first (with_calls action told (journal_of made)) (answers_of (with_deed_by action step told (deeds_in made))) next_unit next_store → standing.Stands c.blocks jobs next_queue
+      → IsLiving c first (with_calls action told (journal_of made)) (answers_of (with_deed_by action step told (deeds_made made))) next_unit next_store → standing.Stands c.blocks jobs next_queue
       → IsAnswered (start_from c first.state) (journal_of made) mid.jobs action told jobs → Follows (driver_of store) (driver_of next_store)
-      → IsCaused c begun.device.faults (answers_of (with_deed_by action step told (deeds_in made))) next_store
-      → AreHeld found jobs (jobs_told (answers_of (with_deed_by action step told (deeds_in made)))) (with_deed_by action step told (deeds_in made)) (driver_of next_store).value
+      → IsCaused c begun.device.faults (answers_of (with_deed_by action step told (deeds_made made))) next_store
+      → AreHeld found jobs (jobs_told (answers_of (with_deed_by action step told (deeds_made made)))) (with_deed_by action step told (deeds_made made)) (driver_of next_store).value
       → IsMidway c first found begun ((step, told) ∷ made) next_unit next_queue next_store
   midway_more action is first found begun made unit next_unit queue next_queue store next_store mid jobs living queued answered follows caused held = record {
     jobs = jobs;
-    living = subst (λ (does : Action). IsLiving c first (with_calls does told (journal_of made)) (answers_of (with_deed_by does step told (deeds_in made))) next_unit next_store) (sym is) living;
+    living = subst (λ (does : Action). IsLiving c first (with_calls does told (journal_of made)) (answers_of (with_deed_by does step told (deeds_made made))) next_unit next_store) (sym is) living;
     queued = queued;
     answered = (mid.jobs, mid.answered, subst (λ (does : Action). IsAnswered (start_from c first.state) (journal_of made) mid.jobs does told jobs) (sym is) answered);
     follows = more_calls begun (driver_of store) (driver_of next_store) mid.follows follows;
-    caused = subst (λ (does : Action). IsCaused c begun.device.faults (answers_of (with_deed_by does step told (deeds_in made))) next_store) (sym is) caused;
-    held = subst (λ (does : Action). AreHeld found jobs (jobs_told (answers_of (with_deed_by does step told (deeds_in made)))) (with_deed_by does step told (deeds_in made)) (driver_of next_store).value) (sym is) held;
+    caused = subst (λ (does : Action). IsCaused c begun.device.faults (answers_of (with_deed_by does step told (deeds_made made))) next_store) (sym is) caused;
+    held = subst (λ (does : Action). AreHeld found jobs (jobs_told (answers_of (with_deed_by does step told (deeds_made made)))) (with_deed_by does step told (deeds_made made)) (driver_of next_store).value) (sym is) held;
   }
 
 -- A save tells of no job.
@@ -119,30 +119,24 @@ module _ {B : Type 0} {b : Ghosts B} (c : Config) (step : Step) where
   made_queue op place reply is queue_call unit queue next_queue store stands replied = λ first found begun made mid.
       midway_more c step (answers.Queue (record { place = place; reply = reply })) (actions.Queue op) is first found begun made unit unit queue next_queue store store mid (op ∷ mid.jobs)
       mid.living (stands mid.jobs mid.queued) (replied mid.jobs mid.queued, refl) (no_call (driver_of store)) mid.caused
-      (held_beside found (jobs_told (deeds_of made)) (deeds_in made) (driver_of store).value op mid.jobs (apart op queue_call) mid.held)
+      (held_beside found (jobs_told (deeds_of made)) (deeds_made made) (driver_of store).value op mid.jobs (apart op queue_call) mid.held)
 
-  pub made_save : (told : Told) → action_of step ≡ actions.Save → IsSave told → (unit next_unit : UnitView) (queue : JobQueue) (store next_store : Store B b)
-      → ((first : Generation) (journal : Journal) (earlier : List Told) → IsLiving c first journal earlier unit store → IsLiving c first (with_save told journal) (told ∷ earlier) next_unit next_store)
-      → ((begun : ℕ) (earlier : List Told) → IsCaused c begun earlier store → IsCaused c begun (told ∷ earlier) next_store)
-      → SameApplications (driver_of store).value (driver_of next_store).value → Follows (driver_of store) (driver_of next_store)
+  pub made_save : (told : Told) → action_of step ≡ actions.Save → (unit next_unit : UnitView) (queue : JobQueue) (store next_store : Store B b) → SavesSo c unit next_unit store next_store told
       → MakesStep c step told unit next_unit queue queue store next_store
-  made_save told is saved unit next_unit queue store next_store living caused same follows = λ first found begun made mid.
-      midway_more c step told actions.Save is first found begun made unit next_unit queue queue store next_store mid mid.jobs (living first (journal_of made) (deeds_of made) mid.living) mid.queued (saved, refl) follows
-      (caused begun.device.faults (deeds_of made) mid.caused)
-      (held_deed found (deeds_in made) (step, told) (driver_of store).value (driver_of next_store).value same (save_tells_none told (deeds_of made) saved) mid.jobs
-      (λ held. subst (λ (does : Action). GetsBy found mid.jobs (deeds_in made) does told) (sym is) tt) mid.held)
+  made_save told is unit next_unit queue store next_store saves = λ first found begun made mid.
+      midway_more c step told actions.Save is first found begun made unit next_unit queue queue store next_store mid mid.jobs (saves.living first (journal_of made) (deeds_of made) mid.living) mid.queued (saves.is, refl) saves.follows
+      (saves.caused begun.device.faults (deeds_of made) mid.caused)
+      (held_deed found (deeds_made made) (step, told) (driver_of store).value (driver_of next_store).value saves.applications (save_tells_none told (deeds_of made) saves.is) mid.jobs
+      (λ held. subst (λ (does : Action). GetsBy found mid.jobs (deeds_made made) does told) (sym is) tt) mid.held)
 
-  pub made_get : (told : Told) (block : ℕ) → action_of step ≡ actions.Get block → IsGot told → block < applications → (unit : UnitView) (queue : JobQueue) (store next_store : Store B b)
-      → ((first : Generation) (journal : Journal) (earlier : List Told) → IsLiving c first journal earlier unit store → IsLiving c first journal (told ∷ earlier) unit next_store)
-      → ((begun : ℕ) (earlier : List Told) → IsCaused c begun earlier store → IsCaused c begun (told ∷ earlier) next_store)
-      → Finds ((driver_of store).value (application_number block)) told → SameValues (driver_of store) (driver_of next_store) → Follows (driver_of store) (driver_of next_store)
+  pub made_get : (told : Told) (block : ℕ) → action_of step ≡ actions.Get block → block < applications → (unit : UnitView) (queue : JobQueue) (store next_store : Store B b) → ReadsSo c block store next_store told
       → MakesStep c step told unit unit queue queue store next_store
-  made_get told block is got below unit queue store next_store living caused reads same follows = λ first found begun made mid.
-      midway_more c step told (actions.Get block) is first found begun made unit unit queue queue store next_store mid mid.jobs (living first (journal_of made) (deeds_of made) mid.living) mid.queued (got, refl) follows
-      (caused begun.device.faults (deeds_of made) mid.caused)
-      (held_deed found (deeds_in made) (step, told) (driver_of store).value (driver_of next_store).value (λ number small. same (application_number number))
-      (read_tells_none found mid.jobs (deeds_in made) (driver_of store).value block below told reads) mid.jobs
-      (λ held. subst (λ (does : Action). GetsBy found mid.jobs (deeds_in made) does told) (sym is) (read_gets found mid.jobs (deeds_in made) (driver_of store).value block below told reads held)) mid.held)
+  made_get told block is below unit queue store next_store reads = λ first found begun made mid.
+      midway_more c step told (actions.Get block) is first found begun made unit unit queue queue store next_store mid mid.jobs (reads.living first (journal_of made) (deeds_of made) unit mid.living) mid.queued (reads.is, refl) reads.follows
+      (reads.caused begun.device.faults (deeds_of made) mid.caused)
+      (held_deed found (deeds_made made) (step, told) (driver_of store).value (driver_of next_store).value (λ number small. reads.values (application_number number))
+      (read_tells_none found mid.jobs (deeds_made made) (driver_of store).value block below told reads.found) mid.jobs
+      (λ held. subst (λ (does : Action). GetsBy found mid.jobs (deeds_made made) does told) (sym is) (read_gets found mid.jobs (deeds_made made) (driver_of store).value block below told reads.found held)) mid.held)
 
   pub made_drain : (written failed : ℕ) → action_of step ≡ actions.Drain → (unit : UnitView) (queue next_queue : JobQueue) (store next_store : Store B b)
       → ((held spare : Generation) → IsRunning c held spare store → IsRunning c held spare next_store) → Follows (driver_of store) (driver_of next_store)
@@ -152,7 +146,7 @@ module _ {B : Type 0} {b : Ghosts B} (c : Config) (step : Step) where
       let told : Told = answers.Drained written failed in
       let done = drained mid.jobs mid.queued in
       let living = mid.living in
-      let held = done.carries.held found (jobs_told (deeds_of made)) (deeds_in made) mid.held in
+      let held = done.carries.held found (jobs_told (deeds_of made)) (deeds_made made) mid.held in
       midway_more c step told actions.Drain is first found begun made unit unit queue next_queue store next_store mid done.after
       (record {
         stands = living.stands;
@@ -167,6 +161,6 @@ module _ {B : Type 0} {b : Ghosts B} (c : Config) (step : Step) where
       (record {
         done = held.done;
         held = held.held;
-        got = (subst (λ (does : Action). GetsBy found done.after (deeds_in made) does told) (sym is) tt, held.got);
+        got = (subst (λ (does : Action). GetsBy found done.after (deeds_made made) does told) (sym is) tt, held.got);
         told = omega arith;
       })

@@ -17,8 +17,8 @@ use Rattle.flt_life_model.proofs.ByAction.{touches_by, touches_store}
 use Rattle.flt_lives.proofs.Deeds.{deeds_more}
 use Rattle.flt_turn.specs.declared.vault.Entry.{Entry}
 use Rattle.flt_queue.specs.declared.job.QueueOp.{QueueOp}
-use Rattle.flt_live.specs.Made.{Made, deeds_in, deeds_of, with_deed_by}
-use Rattle.flt_live.specs.Span.{view_of}
+use Rattle.flt_live.specs.Made.{Made, deeds_made, deeds_of, with_deed_by}
+use Rattle.flt_live.specs.Span.{seen_as}
 
 abbrev parts_made : List Made → List (PartOf Step)
 parts_made made = map inl (reverse (map (λ (m : Made). m.0) made))
@@ -59,24 +59,24 @@ deed_by actions.Drain step told earlier = sym (reverse-append ((step, told) ∷ 
 deed_by (actions.Get block) step told earlier = sym (reverse-append ((step, told) ∷ []) earlier)
 deed_by (actions.Arm arm) step told earlier = append-nil (reverse earlier)
 
-deeds_seen : (made : List Made) → ordered.deeds_in (parts_made made) (own_made made) [] ≡ reverse (deeds_in made)
+deeds_seen : (made : List Made) → ordered.deeds_in (parts_made made) (own_made made) [] ≡ reverse (deeds_made made)
 deeds_seen [] = refl
 deeds_seen (one ∷ earlier) =
     ap (λ parts. ordered.deeds_in parts (own_made (one ∷ earlier)) []) (parts_more one earlier)
     ∙ ap (λ own. ordered.deeds_in (parts_made earlier ++ inl one.0 ∷ []) own []) (own_more one earlier)
     ∙ deeds_more (parts_made earlier) (own_made earlier) [] one.0 one.1 (as_many earlier)
     ∙ ap (λ l. l ++ with_deed one.0 one.1 []) (deeds_seen earlier)
-    ∙ ap (λ is. reverse (deeds_in earlier) ++ deed_if is one.0 one.1 []) (touches_by one.0)
-    ∙ deed_by (action_of one.0) one.0 one.1 (deeds_in earlier)
+    ∙ ap (λ is. reverse (deeds_made earlier) ++ deed_if is one.0 one.1 []) (touches_by one.0)
+    ∙ deed_by (action_of one.0) one.0 one.1 (deeds_made earlier)
 
 -- The deeds of the life, their answers, and its calls of the queue.
-pub deeds_are : (boot : Boot) (made : List Made) (jobs : History) → chain.deeds_of (view_of boot made jobs) ≡ deeds_in made
-deeds_are boot made jobs = ap reverse (deeds_seen made) ∙ reverse-reverse (deeds_in made)
+pub deeds_are : (boot : Boot) (made : List Made) (jobs : History) → chain.deeds_of (seen_as boot made jobs) ≡ deeds_made made
+deeds_are boot made jobs = ap reverse (deeds_seen made) ∙ reverse-reverse (deeds_made made)
 
-pub told_are : (boot : Boot) (made : List Made) (jobs : History) → chain.told_of (view_of boot made jobs) ≡ deeds_of made
+pub told_are : (boot : Boot) (made : List Made) (jobs : History) → chain.told_of (seen_as boot made jobs) ≡ deeds_of made
 told_are boot made jobs = ap (map (λ (d : Deed). d.1)) (deeds_are boot made jobs)
 
-pub queue_is : (boot : Boot) (made : List Made) (jobs : History) → chain.queue_of (view_of boot made jobs) ≡ jobs
+pub queue_is : (boot : Boot) (made : List Made) (jobs : History) → chain.queue_of (seen_as boot made jobs) ≡ jobs
 queue_is boot made jobs = entries jobs
   where
     entries : (l : History) → map (λ (e : Entry QueueOp). e.op) (map (λ (op : QueueOp). record { lane = 0; op = op }) l) ≡ l

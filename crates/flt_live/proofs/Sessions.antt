@@ -15,7 +15,7 @@ use Rattle.flt_live.specs.declared.living.LifeEnd.{LifeEnd}
 use Rattle.flt_live.specs.Heard.{Talk}
 use Rattle.flt_live.specs.Laws.{EachGoesOn, FirstFindsSound, views_in}
 use Rattle.flt_live.specs.Lived.{UnlessLost}
-use Rattle.flt_live.specs.Span.{ArePassed, AreSpans, BeginsSo, IsFoundBehind, IsSpan, IsWhole, LifeSpan, SameBlocks}
+use Rattle.flt_live.specs.Span.{ArePassed, AreSpans, BeginsSo, IsFoundBehind, IsSpan, IsWholeLife, LifeSpan, SameBlocks}
 
 module _ (c : Config) (given : IsGiven c) where
   -- The same of blocks that are the same.
@@ -46,7 +46,7 @@ module _ (c : Config) (given : IsGiven c) where
       (is, begins_on 0 None life.before life.begun life.boot is span.is, tt)
   each_goes from (last ∷ earlier) life passed found span sound =
       let so_far = each_goes from earlier last passed.0 passed.4 passed.3 sound in
-      let whole = subst (λ (e : LifeEnd). UnlessLost e (IsWhole c last e)) passed.2 passed.3.whole in
+      let whole = subst (λ (e : LifeEnd). UnlessLost e (IsWholeLife c last e)) passed.2 passed.3.whole in
       let number = acknowledged_in (views_in earlier) in
       let known = last_acknowledged c (views_in earlier) in
       let left = leaves_no_older c given held_stands spare_stands number known (moment_of last.before) last.begun.device.faults so_far.0 (moment_of last.last) last.view last.boot whole.is_life in

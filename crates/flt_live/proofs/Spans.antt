@@ -28,13 +28,13 @@ use Rattle.flt_report.specs.Boot.{boot_line}
 use Rattle.flt_live.specs.declared.living.LifeEnd.{LifeEnd}
 use Rattle.flt_live.specs.declared.living.LifeEnd.TheVariants.{Ended, Memory, Power, Unread, Unwritten}
 use Rattle.flt_live.specs.Ahead.{ahead_with}
-use Rattle.flt_live.specs.Begun.{Begins, IsBegunBy, without_steps}
+use Rattle.flt_live.specs.Begun.{BeginsOn, IsBegunBy, without_steps}
 use Rattle.flt_live.specs.Heard.{Says, Talk}
 use Rattle.flt_live.specs.Lived.{GoesOnBy, IsLifeLived, TakesLines, UnlessLost}
-use Rattle.flt_live.specs.Made.{IsMidway, Made, deeds_in, deeds_of, journal_of}
-use Rattle.flt_live.specs.Session.{IsUnread}
+use Rattle.flt_live.specs.Made.{IsMidway, Made, deeds_made, deeds_of, journal_of}
+use Rattle.flt_live.specs.Session.{SourceFailed}
 use Rattle.flt_live.specs.Shelf.{GivesBack}
-use Rattle.flt_live.specs.Span.{ArePassed, AreSpans, BeginsSo, IsFoundBehind, IsSpan, IsWhole, LifeSpan, SameBlocks, WentOn, next_number, view_of}
+use Rattle.flt_live.specs.Span.{ArePassed, AreSpans, BeginsSo, IsFoundBehind, IsSpan, IsWholeLife, LifeSpan, SameBlocks, WentOn, next_life, seen_as}
 use Rattle.flt_live.proofs.Seen.{deeds_are, queue_is, told_are}
 
 pub nothing_pulled : (left : Option (List ℕ)) → ahead_with [] left ≡ left
@@ -43,10 +43,10 @@ nothing_pulled (Some bytes) = refl
 
 -- ---- a life that was started is one of a run
 
-module _ {B : Type 0} {b : Ghosts B} (c : Config) (before : BlocksState) (number : ℕ) (state : Persist) (begun last : Store B b) (begins : Begins c before (boots.Started number state) begun) (unit : UnitView) (queue : JobQueue) (made : List Made)
+module _ {B : Type 0} {b : Ghosts B} (c : Config) (before : BlocksState) (number : ℕ) (state : Persist) (begun last : Store B b) (begins : BeginsOn c before (boots.Started number state) begun) (unit : UnitView) (queue : JobQueue) (made : List Made)
     (mid : IsMidway c (numbered number state) before.value (driver_of begun) made unit queue last) where
   abbrev seen : LifeView
-  seen = view_of (boots.Started number state) made mid.jobs
+  seen = seen_as (boots.Started number state) made mid.jobs
 
   kept_seen : IsKeptSince c (numbered number state) (journal_of made) (told_of seen) mid.living.held mid.living.spare
   kept_seen = subst (λ told. IsKeptSince c (numbered number state) (journal_of made) told mid.living.held mid.living.spare) (sym (told_are (boots.Started number state) made mid.jobs)) mid.living.kept
@@ -89,7 +89,7 @@ module _ {B : Type 0} {b : Ghosts B} (c : Config) (before : BlocksState) where
   module _ (begun last : Store B b) (unit : UnitView) (from after : Talk) (end : LifeEnd) where
     -- What it is in the words of a run.
     abbrev pub view_by : (boot : Boot) → GoesOnBy c boot before.value begun last unit from after end → LifeView
-    view_by (boots.Started number state) goes = view_of (boots.Started number state) goes.made goes.midway.jobs
+    view_by (boots.Started number state) goes = seen_as (boots.Started number state) goes.made goes.midway.jobs
     view_by boots.Dark goes = without_steps boots.Dark
     view_by (boots.Refused fault) goes = without_steps (boots.Refused fault)
 
@@ -107,7 +107,7 @@ module _ {B : Type 0} {b : Ghosts B} (c : Config) (before : BlocksState) where
     went_on boots.Dark goes = (refl, goes.1)
     went_on (boots.Refused fault) goes = (refl, goes.1, goes.2, goes.3)
 
-    is_over : (boot : Boot) → Begins c before boot begun → (goes : GoesOnBy c boot before.value begun last unit from after end)
+    is_over : (boot : Boot) → BeginsOn c before boot begun → (goes : GoesOnBy c boot before.value begun last unit from after end)
         → IsLifeBegunBy c (moment_of before) (moment_of (driver_of last)) (driver_of begun).device.faults (view_by boot goes) boot
     is_over (boots.Started number state) begins goes = is_life c before number state begun last begins unit goes.queue goes.made goes.midway
     is_over boots.Dark begins goes =
@@ -153,7 +153,7 @@ module _ {B : Type 0} {b : Ghosts B} (c : Config) (number status : ℕ) (before 
     after = after;
   }
 
-  whole_by : (end : LifeEnd) (boot : Boot) (begun : Store B b) → Begins c before boot begun → (said : UnlessLost end (Said end boot begun)) → UnlessLost end (IsWhole c (span_at end boot begun said) end)
+  whole_by : (end : LifeEnd) (boot : Boot) (begun : Store B b) → BeginsOn c before boot begun → (said : UnlessLost end (Said end boot begun)) → UnlessLost end (IsWholeLife c (span_at end boot begun said) end)
   whole_by Power boot begun begins said = record { between = said.0; says = said.1; went_on = went_on c before begun last unit said.0 after Power boot said.2; is_life = is_over c before begun last unit said.0 after Power boot begins said.2 }
   whole_by Ended boot begun begins said = record { between = said.0; says = said.1; went_on = went_on c before begun last unit said.0 after Ended boot said.2; is_life = is_over c before begun last unit said.0 after Ended boot begins said.2 }
   whole_by Unread boot begun begins said = record { between = said.0; says = said.1; went_on = went_on c before begun last unit said.0 after Unread boot said.2; is_life = is_over c before begun last unit said.0 after Unread boot begins said.2 }
@@ -197,7 +197,7 @@ module _ {B : Type 0} {b : Ghosts B} (c : Config) (number status : ℕ) (before 
 
 -- ---- one life more
 
-module _ (tells : Bool) (c : Config) (start : Talk) (earlier : List LifeSpan) (life : LifeSpan) (passed : ArePassed tells c start earlier life.from) (counted : life.number ≡ next_number earlier) (found : IsFoundBehind tells earlier life.before)
+module _ (tells : Bool) (c : Config) (start : Talk) (earlier : List LifeSpan) (life : LifeSpan) (passed : ArePassed tells c start earlier life.from) (counted : life.number ≡ next_life earlier) (found : IsFoundBehind tells earlier life.before)
     (span : IsSpan c life) where
   pub one_more : life.end ≡ Power → ArePassed tells c start (life ∷ earlier) life.after
   one_more power = (passed, counted, power, span, found, refl)
@@ -221,9 +221,9 @@ module _ (tells : Bool) (c : Config) (start : Talk) (earlier : List LifeSpan) (l
   rose_of boots.Dark t goes = goes.1.ended
   rose_of (boots.Refused fault) t goes = absurd (cc goes.3)
 
-  pub unread_of : (to : Talk) (pulled : List ℕ) → life.after ≡ record to { ahead = ahead_with pulled to.ahead } → life.end ≡ Unread → start.read_faults ≤ life.from.read_faults → IsUnread tells c start to
+  pub unread_of : (to : Talk) (pulled : List ℕ) → life.after ≡ record to { ahead = ahead_with pulled to.ahead } → life.end ≡ Unread → start.read_faults ≤ life.from.read_faults → SourceFailed tells c start to
   unread_of to pulled after_is unread later =
-      let whole = subst (λ (e : LifeEnd). UnlessLost e (IsWhole c life e)) unread span.whole in
+      let whole = subst (λ (e : LifeEnd). UnlessLost e (IsWholeLife c life e)) unread span.whole in
       let rose = rose_of life.boot whole.between whole.went_on in
       let same = whole.says.read_faults in
       let after = ap (λ (t : Talk). t.read_faults) after_is in
@@ -256,5 +256,5 @@ found_behind tells medium (life ∷ earlier) kept before left on given =
 
 -- ---- lives are counted
 
-pub number_more : (number : ℕ) (earlier : List LifeSpan) → number ≡ min (length earlier) (2 ^ 32 - 1) → min (number + 1) (2 ^ 32 - 1) ≡ next_number earlier
+pub number_more : (number : ℕ) (earlier : List LifeSpan) → number ≡ min (length earlier) (2 ^ 32 - 1) → min (number + 1) (2 ^ 32 - 1) ≡ next_life earlier
 number_more number earlier is = omega (arith, is)

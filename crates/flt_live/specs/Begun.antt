@@ -31,7 +31,7 @@ IsBegunBy c before (Refused fault) store = HasBegun c before (Refused fault) sto
 
 -- It began so, on the blocks that were there: no number, no room and no application block changed, a sound image stays without a fault, and
 -- the count of faults did not fall.
-pub record Begins {B : Type 0} {b : Ghosts B} (c : Config) (before : BlocksState) (boot : Boot) (store : Store B b) : Type 0 where
+pub record BeginsOn {B : Type 0} {b : Ghosts B} (c : Config) (before : BlocksState) (boot : Boot) (store : Store B b) : Type 0 where
   pub is : IsBegunBy c before boot store
   pub numbers : (driver_of store).numbers ≡ before.numbers
   pub room : (driver_of store).room ≡ before.room

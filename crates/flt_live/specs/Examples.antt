@@ -16,7 +16,7 @@ use Rattle.flt_live.specs.Heard.{AreHeard, Heard, Talk, answers_of, bytes_of}
 use Rattle.flt_live.specs.Made.{Made}
 use Rattle.flt_live.specs.Session.{Closed, Other, Refused, SessionEnd, Unread, Unreadable, session_in, status_due}
 use Rattle.flt_live.specs.Session as sessions
-use Rattle.flt_live.specs.Span.{ArePassed, LifeSpan, next_number}
+use Rattle.flt_live.specs.Span.{ArePassed, LifeSpan, next_life}
 
 -- A line that a line feed ends, and one that the end of the source cuts off.
 abbrev pub fed : List ℕ → List ℕ → Heard
@@ -46,10 +46,10 @@ pub record LinesAreHeard (c : Config) : Type 0 where
 
 -- Lives are counted from 1 on, and the count stays at its end. Of two lives the second begins where the first ended.
 pub record LivesFollow (tells : Bool) (c : Config) (start : Talk) : Type 0 where
-  pub first : next_number [] ≡ 1
-  pub second : (life : LifeSpan) → next_number (life ∷ []) ≡ 2
-  pub last : (lives : List LifeSpan) → length lives ≡ 4294967295 → next_number lives ≡ 4294967295
-  pub before_last : (lives : List LifeSpan) → length lives ≡ 4294967293 → next_number lives ≡ 4294967294
+  pub first : next_life [] ≡ 1
+  pub second : (life : LifeSpan) → next_life (life ∷ []) ≡ 2
+  pub last : (lives : List LifeSpan) → length lives ≡ 4294967295 → next_life lives ≡ 4294967295
+  pub before_last : (lives : List LifeSpan) → length lives ≡ 4294967293 → next_life lives ≡ 4294967294
   pub joined : (one two : LifeSpan) (to : Talk) → ArePassed tells c start (two ∷ one ∷ []) to → (one.from ≡ start) × (two.from ≡ one.after) × (to ≡ two.after)
   pub numbered : (one two : LifeSpan) (to : Talk) → ArePassed tells c start (two ∷ one ∷ []) to → (one.number ≡ 1) × (two.number ≡ 2)
   pub powered : (one two : LifeSpan) (to : Talk) → ArePassed tells c start (two ∷ one ∷ []) to → (one.end ≡ Power) × (two.end ≡ Power)

@@ -52,11 +52,11 @@ IsUnopened shelves.Memory = ⊥
 IsUnopened _ = Unit {0}
 
 -- An image was found damaged, or of another configuration.
-abbrev pub IsFaulty : StartFault → Type 0
-IsFaulty faults.Flash = ⊥
-IsFaulty (faults.Damaged place) = Unit {0}
-IsFaulty (faults.OtherConfig found wanted) = Unit {0}
-IsFaulty faults.SequenceSpent = ⊥
+abbrev pub IsFaultyImage : StartFault → Type 0
+IsFaultyImage faults.Flash = ⊥
+IsFaultyImage (faults.Damaged place) = Unit {0}
+IsFaultyImage (faults.OtherConfig found wanted) = Unit {0}
+IsFaultyImage faults.SequenceSpent = ⊥
 
 -- The ends that a status is given for, and no other.
 abbrev pub MayEndSo : ℕ → SessionEnd → Type 0
@@ -65,7 +65,7 @@ MayEndSo status end =
     (Choose (status == 2) ((end ≡ Other) ⊎ ((fault : ScriptFault) × (end ≡ Refused fault)))
     (Choose (status == 3) ((end ≡ Unreadable) ⊎ (end ≡ Unread))
     (Choose (status == 5) ((end ≡ Ended boots.Dark) ⊎ (end ≡ Ended (boots.Refused faults.Flash)))
-    (Choose (status == 6) ((fault : StartFault) × IsFaulty fault × (end ≡ Ended (boots.Refused fault)))
+    (Choose (status == 6) ((fault : StartFault) × IsFaultyImage fault × (end ≡ Ended (boots.Refused fault)))
     (Choose (status == 7) (end ≡ Closed shelves.Memory)
     (Choose (status == 8) (end ≡ Ended (boots.Refused faults.SequenceSpent))
     (Choose (status == 14) ((found : ℕ) × (needed : ℕ) × (end ≡ Closed (shelves.Size found needed)))

@@ -13,16 +13,17 @@ use Rattle.flt_io.specs.declared.stream.StreamFault.TheVariants as streams
 use Rattle.flt_queue.specs.declared.queue.JobQueue.{JobQueue}
 use Rattle.flt_store.specs.declared.store.Store.{Store}
 use Rattle.flt_store.specs.Store.{driver_of, numbered}
-use Rattle.flt_store_model.specs.Holding.{Generation}
+use Rattle.flt_store_model.specs.Holding.{Generation, SameApplications}
 use Rattle.flt_life_model.specs.declared.answer.StepAnswer.TheVariants as answers
 use Rattle.flt_life_model.specs.declared.life.Boot.{Boot}
 use Rattle.flt_life_model.specs.declared.life.Boot.TheVariants as boots
 use Rattle.flt_life_model.specs.Statuses.{status_by}
+use Rattle.flt_lives.specs.Living.{IsLiving}
 use Rattle.flt_report.specs.Boot.{boot_line}
 use Rattle.flt_live.specs.declared.line.Due.TheVariants as due
 use Rattle.flt_live.specs.declared.living.LifeEnd.{LifeEnd}
 use Rattle.flt_live.specs.declared.living.LifeEnd.TheVariants.{Power, Ended, Unread, Unwritten, Memory}
-use Rattle.flt_live.specs.Begun.{Begins}
+use Rattle.flt_live.specs.Begun.{BeginsOn}
 use Rattle.flt_live.specs.Due.{due_at}
 use Rattle.flt_live.specs.Heard.{AreHeard, Heard, IsLater, IsOneLine, Says, Talk, answers_of, bytes_of, text_in}
 use Rattle.flt_live.specs.Made.{IsMidway, Made}
@@ -81,6 +82,13 @@ pub record TakesDarkLines (c : Config) (before after : Talk) (end : LifeEnd) : T
   pub written : Appends before.held after.held (answers_of heard)
   pub ended : EndsBy c heard before after end
 
+-- How a dark life took its lines.
+pub record TakesAllDark (c : Config) (before after : Talk) (end : LifeEnd) : Type 0 where
+  pub taken : UnlessLost end (TakesDarkLines c before after end)
+  pub cause : IsLostFor before.write_faults after.write_faults end
+  pub cut : IfLost end (IsCutShort c [] before after)
+  pub later : IsLater before after
+
 module _ {B : Type 0} {b : Ghosts B} where
   -- A life that began with this generation, and found this in the blocks, took these lines: the machine, the queue and the store stand for
   -- the steps that they made.
@@ -92,6 +100,14 @@ module _ {B : Type 0} {b : Ghosts B} where
     pub midway : IsMidway c first found begun made unit queue store
     pub written : Appends before.held after.held (answers_of heard)
     pub ended : EndsBy c heard before after end
+
+  -- How lines were taken, from a life that had just begun: to its end, unless it was lost; then a front of their answers was written.
+  pub record TakesAll (c : Config) (begun_unit unit : UnitView) (begun store : Store B b) (before after : Talk) (end : LifeEnd) : Type 0 where
+    pub taken : (first : Generation) (found : ℕ → Content) → IsLiving c first [] [] begun_unit begun → SameApplications found (driver_of begun).value
+        → UnlessLost end (TakesLines c first found (driver_of begun) before after unit store end)
+    pub cause : IsLostFor before.write_faults after.write_faults end
+    pub cut : IfLost end (IsCutShort c [] before after)
+    pub later : IsLater before after
 
   -- What follows the line that begins a life, by how it began. A refused life reads nothing, and leaves the store as a dark one does.
   abbrev pub GoesOnBy : Config → Boot → (found : ℕ → Content) → (begun last : Store B b) → UnitView → (before after : Talk) → LifeEnd → Type 0
@@ -107,7 +123,7 @@ module _ {B : Type 0} {b : Ghosts B} where
     pub boot : Boot
     pub status_is : status ≡ status_by boot
     pub begun : Store B b
-    pub is : Begins c before boot begun
+    pub is : BeginsOn c before boot begun
     pub said : UnlessLost end ((between : Talk) × Says (boot_line number boot) from between × GoesOnBy c boot before.value begun last unit between after end)
     pub lost : IsLostFor from.write_faults after.write_faults end
     pub cut : IfLost end (IsCutShort c (boot_line number boot) from after)

@@ -6,10 +6,11 @@ use Rattle.flt_model.specs.Answer.{answer}
 use Rattle.flt_model.specs.declared.call.Op.{Op}
 use Rattle.flt_model.specs.declared.call.Op.TheVariants as ops
 use Rattle.flt_flash.specs.Blocks.{BlocksState}
-use Rattle.flt_flash.specs.Calls.{Follows}
+use Rattle.flt_flash.specs.Calls.{Follows, SameValues}
 use Rattle.flt_flash.specs.Content.{Content, missing, bytes as holding}
 use Rattle.flt_flash.specs.declared.blocks.Blocks.{Ghosts}
-use Rattle.flt_store_model.specs.Holding.{Generation}
+use Rattle.flt_store_model.specs.Holding.{Generation, SameApplications}
+use Rattle.flt_store_model.specs.Layout.{application_number}
 use Rattle.flt_dcm.specs.Unit.{UnitView}
 use Rattle.flt_queue.specs.declared.job.QueueOp.{QueueOp}
 use Rattle.flt_queue.specs.declared.queue.JobQueue.{JobQueue}
@@ -63,13 +64,13 @@ with_deed_by actions.Drain step told earlier = (step, told) ∷ earlier
 with_deed_by (actions.Get block) step told earlier = (step, told) ∷ earlier
 with_deed_by _ step told earlier = earlier
 
-abbrev pub deeds_in : List Made → List Deed
-deeds_in [] = []
-deeds_in (made ∷ earlier) = with_deed_by (action_of made.0) made.0 made.1 (deeds_in earlier)
+abbrev pub deeds_made : List Made → List Deed
+deeds_made [] = []
+deeds_made (made ∷ earlier) = with_deed_by (action_of made.0) made.0 made.1 (deeds_made earlier)
 
 -- Their answers.
 abbrev pub deeds_of : List Made → List Told
-deeds_of made = answers_of (deeds_in made)
+deeds_of made = answers_of (deeds_made made)
 
 -- The answer is the machine's to a call behind these.
 abbrev pub IsReply : Start → Journal → Op → Told → Type 0
@@ -126,9 +127,28 @@ module _ {B : Type 0} {b : Ghosts B} where
     pub answered : AreAnswered (start_from c first.state) made jobs
     pub follows : Follows begun (driver_of store)
     pub caused : IsCaused c begun.device.faults (deeds_of made) store
-    pub held : AreHeld found jobs (jobs_told (deeds_of made)) (deeds_in made) (driver_of store).value
+    pub held : AreHeld found jobs (jobs_told (deeds_of made)) (deeds_made made) (driver_of store).value
 
   -- One step more was made, with this answer.
   abbrev pub MakesStep : Config → Step → Told → (unit next_unit : UnitView) → (queue next_queue : JobQueue) → (store next_store : Store B b) → Type 0
   MakesStep c step told unit next_unit queue next_queue store next_store = (first : Generation) (found : ℕ → Content) (begun : BlocksState) (made : List Made)
       → IsMidway c first found begun made unit queue store → IsMidway c first found begun ((step, told) ∷ made) next_unit next_queue next_store
+
+  -- A save was made and answered so.
+  pub record SavesSo (c : Config) (unit next_unit : UnitView) (store next_store : Store B b) (told : Told) : Type 0 where
+    pub is : IsSave told
+    pub living : (first : Generation) (journal : Journal) (earlier : List Told) → IsLiving c first journal earlier unit store
+        → IsLiving c first (with_save told journal) (told ∷ earlier) next_unit next_store
+    pub caused : (begun : ℕ) (earlier : List Told) → IsCaused c begun earlier store → IsCaused c begun (told ∷ earlier) next_store
+    pub applications : SameApplications (driver_of store).value (driver_of next_store).value
+    pub follows : Follows (driver_of store) (driver_of next_store)
+
+  -- An application block was read, and this answered.
+  pub record ReadsSo (c : Config) (block : ℕ) (store next_store : Store B b) (told : Told) : Type 0 where
+    pub is : IsGot told
+    pub living : (first : Generation) (journal : Journal) (earlier : List Told) (unit : UnitView) → IsLiving c first journal earlier unit store
+        → IsLiving c first journal (told ∷ earlier) unit next_store
+    pub caused : (begun : ℕ) (earlier : List Told) → IsCaused c begun earlier store → IsCaused c begun (told ∷ earlier) next_store
+    pub found : Finds ((driver_of store).value (application_number block)) told
+    pub values : SameValues (driver_of store) (driver_of next_store)
+    pub follows : Follows (driver_of store) (driver_of next_store)

@@ -21,7 +21,7 @@ use Rattle.flt_live.specs.declared.living.LifeEnd.TheVariants as lives
 use Rattle.flt_live.specs.declared.session.End.{End}
 use Rattle.flt_live.specs.declared.session.End.TheVariants as ends
 use Rattle.flt_live.specs.Heard.{Talk}
-use Rattle.flt_live.specs.Span.{AreSpans, HavePassed}
+use Rattle.flt_live.specs.Span.{AreSpans, LivesPassed}
 
 -- The bytes of the configuration that are left, before and after it was read, and how often its source failed.
 pub record Reading : Type 0 where
@@ -67,7 +67,7 @@ abbrev pub IsIdle : List (List (PartOf Step)) → Type 0
 IsIdle lives = lives ≡ [] ∷ []
 
 -- The source of the lines failed in the last of these lives.
-pub record IsUnread (tells : Bool) (c : Config) (before after : Talk) : Type 0 where
+pub record SourceFailed (tells : Bool) (c : Config) (before after : Talk) : Type 0 where
   pub boot : Boot
   pub lived : AreSpans tells c before after boot lives.Unread
   pub rose : Rose before.read_faults after.read_faults
@@ -75,21 +75,21 @@ pub record IsUnread (tells : Bool) (c : Config) (before after : Talk) : Type 0 w
 -- Lives were lived, and the flash of the next one was not given, of which bytes were written.
 pub record IsClosed (tells : Bool) (c : Config) (before after : Talk) : Type 0 where
   pub between : Talk
-  pub lived : HavePassed tells c before between
+  pub lived : LivesPassed tells c before between
   pub ahead : after.ahead ≡ between.ahead
   pub text : List ℕ
   pub written : Appends between.held after.held text
 
-abbrev pub other_line : List ℕ
-other_line = codes "script other" ++ 10 ∷ []
+abbrev pub other_script_line : List ℕ
+other_script_line = codes "script other" ++ 10 ∷ []
 
 -- Why a session ends so whose configuration is this script, and what was written.
 abbrev pub IsEndOf : Bool → ScriptContent → (before after : Talk) → SessionEnd → Type 0
 IsEndOf tells script before after Unreadable = ⊥
 IsEndOf tells script before after (Refused fault) = ⊥
-IsEndOf tells script before after Other = ¬ IsIdle script.lives × Appends before.held after.held other_line
+IsEndOf tells script before after Other = ¬ IsIdle script.lives × Appends before.held after.held other_script_line
 IsEndOf tells script before after (Closed fault) = IsIdle script.lives × IsClosed tells script.config before after
-IsEndOf tells script before after Unread = IsIdle script.lives × IsUnread tells script.config before after
+IsEndOf tells script before after Unread = IsIdle script.lives × SourceFailed tells script.config before after
 IsEndOf tells script before after (Ended boot) = IsIdle script.lives × AreSpans tells script.config before after boot lives.Ended
 
 -- Memory ran out, or the sink failed.
@@ -125,10 +125,10 @@ IsSession tells dids config before after status = EndsFor (HasCause tells dids c
 
 -- Why lives ended for something else than the end of the source.
 abbrev pub HasFailed : Bool → Config → (before after : Talk) → End → Type 0
-HasFailed tells c before after ends.Unread = IsUnread tells c before after
+HasFailed tells c before after ends.Unread = SourceFailed tells c before after
 HasFailed tells c before after ends.Unwritten = Rose before.write_faults after.write_faults
 HasFailed tells c before after ends.Memory = Unit {0}
-HasFailed tells c before after (ends.Shelf fault) = HavePassed tells c before after × (before.write_faults ≤ after.write_faults)
+HasFailed tells c before after (ends.Shelf fault) = LivesPassed tells c before after × (before.write_faults ≤ after.write_faults)
 
 -- The status where a line was written or not.
 abbrev pub status_told : {T : Type 0} → ℕ → Result T StreamFault → ℕ

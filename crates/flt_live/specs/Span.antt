@@ -50,8 +50,8 @@ BeginsSo c before begun boots.Dark = IsLifeBetween c (moment_of before) (moment_
 BeginsSo c before begun (boots.Refused fault) = IsLifeBetween c (moment_of before) (moment_of begun) begun.device.faults (without_steps (boots.Refused fault))
 
 -- A life that made these steps and these calls of the queue, in the words of a run: its parts are the steps, and its answers are theirs.
-abbrev pub view_of : Boot → List Made → History → LifeView
-view_of boot made jobs = record {
+abbrev pub seen_as : Boot → List Made → History → LifeView
+seen_as boot made jobs = record {
   parts = map inl (reverse (map (λ m. m.0) made));
   boot = boot;
   journal = journal_of made;
@@ -67,7 +67,7 @@ pub record TookLines (c : Config) (boot : Boot) (start : Start) (view : LifeView
   pub jobs : History
   pub are : AreHeard c heard made
   pub answered : AreAnswered start made jobs
-  pub view_is : view ≡ view_of boot made jobs
+  pub view_is : view ≡ seen_as boot made jobs
   pub written : Appends from.held after.held (answers_of heard)
   pub ended : EndsBy c heard from after end
 
@@ -79,7 +79,7 @@ WentOn c (boots.Refused fault) view from after end =
     (view ≡ without_steps (boots.Refused fault)) × (after.ahead ≡ from.ahead) × (after.held ≡ from.held) × (end ≡ Ended)
 
 -- A life whose lines were written: its first line, and then one for each line that was read; and between its two ends it is a life of a run.
-pub record IsWhole (c : Config) (life : LifeSpan) (end : LifeEnd) : Type 0 where
+pub record IsWholeLife (c : Config) (life : LifeSpan) (end : LifeEnd) : Type 0 where
   pub between : Talk
   pub says : Says (boot_line life.number life.boot) life.from between
   pub went_on : WentOn c life.boot life.view between life.after end
@@ -88,7 +88,7 @@ pub record IsWhole (c : Config) (life : LifeSpan) (end : LifeEnd) : Type 0 where
 -- A life: it is whole, unless the sink failed, or memory ran out. Then a front of its lines was written.
 pub record IsSpan (c : Config) (life : LifeSpan) : Type 0 where
   pub is : BeginsSo c life.before life.begun life.boot
-  pub whole : UnlessLost life.end (IsWhole c life life.end)
+  pub whole : UnlessLost life.end (IsWholeLife c life life.end)
   pub lost : IsLostFor life.from.write_faults life.after.write_faults life.end
   pub cut : IfLost life.end (IsCutShort c (boot_line life.number life.boot) life.from life.after)
   pub later : IsLater life.from life.after
@@ -105,15 +105,15 @@ IsFoundBehind tells [] before = Unit {0}
 IsFoundBehind tells (life ∷ earlier) before = IsTrue tells → SameBlocks life.last before
 
 -- Lives are counted from 1 on, as far as the count goes.
-abbrev pub next_number : List LifeSpan → ℕ
-next_number earlier = min (length earlier + 1) (2 ^ 32 - 1)
+abbrev pub next_life : List LifeSpan → ℕ
+next_life earlier = min (length earlier + 1) (2 ^ 32 - 1)
 
 -- These lives, the newest first, each of which ended by a `power`: the first begins here, each where the one before it ended, and the last
 -- ended there.
 abbrev pub ArePassed : Bool → Config → Talk → List LifeSpan → Talk → Type 0
 ArePassed tells c from [] to = to ≡ from
 ArePassed tells c from (life ∷ earlier) to =
-    ArePassed tells c from earlier life.from × (life.number ≡ next_number earlier) × (life.end ≡ Power) × IsSpan c life
+    ArePassed tells c from earlier life.from × (life.number ≡ next_life earlier) × (life.end ≡ Power) × IsSpan c life
     × IsFoundBehind tells earlier life.before × (to ≡ life.after)
 
 -- The lives up to the last one, which ended so, and what was pulled of the source and not taken.
@@ -122,7 +122,7 @@ pub record AreSpans (tells : Bool) (c : Config) (from to : Talk) (boot : Boot) (
   pub life : LifeSpan
   pub pulled : List ℕ
   pub passed : ArePassed tells c from earlier life.from
-  pub number : life.number ≡ next_number earlier
+  pub number : life.number ≡ next_life earlier
   pub span : IsSpan c life
   pub found : IsFoundBehind tells earlier life.before
   pub boot_is : life.boot ≡ boot
@@ -130,7 +130,7 @@ pub record AreSpans (tells : Bool) (c : Config) (from to : Talk) (boot : Boot) (
   pub to_is : life.after ≡ record to { ahead = ahead_with pulled to.ahead }
 
 -- Lives that each ended by a `power`, and what was pulled of the source and not taken.
-pub record HavePassed (tells : Bool) (c : Config) (from to : Talk) : Type 0 where
+pub record LivesPassed (tells : Bool) (c : Config) (from to : Talk) : Type 0 where
   pub lives : List LifeSpan
   pub pulled : List ℕ
   pub passed : ArePassed tells c from lives (record to { ahead = ahead_with pulled to.ahead })

@@ -1,10 +1,9 @@
 //! A life of a session: from its power-up to a `power`, or to the end of the source.
-ghost use Rattle.std.specs.Prelude.{◌≡◌, ◌≢◌, ◌<◌, ◌≤◌, ℕ, [], IfOk};
-ghost use Rattle.flt_flash.specs.Content.{Content};
+ghost use Rattle.std.specs.Prelude.{◌≡◌, ◌≢◌, ◌<◌, [], IfOk};
 ghost use Rattle.flt_io.specs.Status.{number_of};
 ghost use Rattle.flt_io.specs.Written.{Writes};
 ghost use Rattle.flt_dcm.specs.Whole.{config_of, state_of};
-ghost use Rattle.flt_store_model.specs.Holding.{Generation, SameApplications};
+ghost use Rattle.flt_store_model.specs.Holding.{Generation};
 ghost use Rattle.flt_restore.specs.declared.fault.StartFault.TheVariants.{Flash};
 ghost use Rattle.flt_store.specs.Cause.{HasRoom};
 ghost use Rattle.flt_store.specs.Store.{driver_of, IsAlive};
@@ -12,10 +11,10 @@ ghost use Rattle.flt_life_model.specs.declared.life.Boot.TheVariants.{Refused};
 ghost use Rattle.flt_lives.specs.Living.{IsLiving, IsUnderWay};
 ghost use Rattle.flt_report.specs.Boot.{boot_line};
 ghost use Rattle.flt_live.specs.Answered.{IsReady};
-ghost use Rattle.flt_live.specs.Begun.{Begins};
+ghost use Rattle.flt_live.specs.Begun.{BeginsOn};
 ghost use Rattle.flt_live.specs.Ahead.{ahead_in};
-ghost use Rattle.flt_live.specs.Heard.{IsLater, talk};
-ghost use Rattle.flt_live.specs.Lived.{IfLost, IsCutShort, IsLifeLived, IsLostFor, TakesDarkLines, TakesLines, UnlessLost, lost_by};
+ghost use Rattle.flt_live.specs.Heard.{talk};
+ghost use Rattle.flt_live.specs.Lived.{IsLifeLived, TakesAll, TakesAllDark, lost_by};
 
 use crate::ear::Ear;
 use crate::line::{Answered, answer_dark_line, answer_line};
@@ -106,15 +105,9 @@ fn take_lines<R: Wait, D: Blocks + Drop, S: Source, K: Sink>(
     requires ready { IsReady room.old }
     ensures same { config_of unit.new ≡ config.now }
     ensures ready { IsReady room.new }
-    ensures taken { (first : Generation) (found : ℕ → Content) → IsLiving config.now first [] [] (state_of unit.old) store.old
-        → SameApplications found (driver_of store.old).value
-        → UnlessLost result (TakesLines config.now first found (driver_of store.old) (talk (ahead_in (S.left source.old) ear.old) (S.faults source.old) (K.held sink.old) (K.faults sink.old))
-        (talk (ahead_in (S.left source.new) ear.new) (S.faults source.new) (K.held sink.new) (K.faults sink.new)) (state_of unit.new) store.new result) }
-    ensures cause { IsLostFor (K.faults sink.old) (K.faults sink.new) result }
-    ensures cut { IfLost result (IsCutShort config.now [] (talk (ahead_in (S.left source.old) ear.old) (S.faults source.old) (K.held sink.old) (K.faults sink.old))
-        (talk (ahead_in (S.left source.new) ear.new) (S.faults source.new) (K.held sink.new) (K.faults sink.new))) }
-    ensures later { IsLater (talk (ahead_in (S.left source.old) ear.old) (S.faults source.old) (K.held sink.old) (K.faults sink.old))
-        (talk (ahead_in (S.left source.new) ear.new) (S.faults source.new) (K.held sink.new) (K.faults sink.new)) }
+    ensures all { TakesAll config.now (state_of unit.old) (state_of unit.new) store.old store.new
+        (talk (ahead_in (S.left source.old) ear.old) (S.faults source.old) (K.held sink.old) (K.faults sink.old))
+        (talk (ahead_in (S.left source.new) ear.new) (S.faults source.new) (K.held sink.new) (K.faults sink.new)) result }
 {
     let Ok(mut queue) = JobQueue::new(alloc, config.config().blocks) else {
         return LifeEnd::Memory;
@@ -147,13 +140,8 @@ fn take_dark_lines<R: Wait, S: Source, K: Sink>(
 ) -> LifeEnd
     requires ready { IsReady room.old }
     ensures ready { IsReady room.new }
-    ensures taken { UnlessLost result (TakesDarkLines config.now (talk (ahead_in (S.left source.old) ear.old) (S.faults source.old) (K.held sink.old) (K.faults sink.old))
-        (talk (ahead_in (S.left source.new) ear.new) (S.faults source.new) (K.held sink.new) (K.faults sink.new)) result) }
-    ensures cause { IsLostFor (K.faults sink.old) (K.faults sink.new) result }
-    ensures cut { IfLost result (IsCutShort config.now [] (talk (ahead_in (S.left source.old) ear.old) (S.faults source.old) (K.held sink.old) (K.faults sink.old))
-        (talk (ahead_in (S.left source.new) ear.new) (S.faults source.new) (K.held sink.new) (K.faults sink.new))) }
-    ensures later { IsLater (talk (ahead_in (S.left source.old) ear.old) (S.faults source.old) (K.held sink.old) (K.faults sink.old))
-        (talk (ahead_in (S.left source.new) ear.new) (S.faults source.new) (K.held sink.new) (K.faults sink.new)) }
+    ensures all { TakesAllDark config.now (talk (ahead_in (S.left source.old) ear.old) (S.faults source.old) (K.held sink.old) (K.faults sink.old))
+        (talk (ahead_in (S.left source.new) ear.new) (S.faults source.new) (K.held sink.new) (K.faults sink.new)) result }
 {
     for _ in rt.forever() {
         let ended = match ear.hear(rt, source) {
@@ -203,7 +191,7 @@ fn begin<D: Blocks + Drop>(
 ) -> Boot
     requires room { HasRoom config.now (driver_of store.old).room }
     requires boots { 0 < (driver_of store.old).device.bench.boots_left }
-    ensures { Begins config.now (driver_of store.old) result store.new }
+    ensures { BeginsOn config.now (driver_of store.old) result store.new }
 {
     store.power_up();
     match store.start_up(config, &mut buffers.state) {

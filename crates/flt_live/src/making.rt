@@ -4,25 +4,21 @@ ghost use Rattle.flt_config.specs.Durable.{Fits};
 ghost use Rattle.flt_model.specs.Start.{Start, History as Calls};
 ghost use Rattle.flt_model.specs.Durable.{saved_after};
 ghost use Rattle.flt_model.specs.declared.call.Op.TheVariants as ops;
-ghost use Rattle.flt_dcm.specs.Unit.{Stands, UnitView};
+ghost use Rattle.flt_dcm.specs.Unit.{Stands};
 ghost use Rattle.flt_dcm.specs.Whole.{config_of, state_of};
 ghost use Rattle.flt_queue.specs.Queue.{History, IsJob};
 ghost use Rattle.flt_queue.specs.declared.job.QueueOp.TheVariants as queue_ops;
 ghost use Rattle.flt_queue.specs.Stands as queued;
 ghost use Rattle.flt_step.specs.declared.step.Step.{Step};
-ghost use Rattle.flt_flash.specs.Calls.{Follows, SameValues};
-ghost use Rattle.flt_store_model.specs.Holding.{Generation, SameApplications};
-ghost use Rattle.flt_store_model.specs.Layout.{application_number};
+ghost use Rattle.flt_flash.specs.Calls.{Follows};
+ghost use Rattle.flt_store_model.specs.Holding.{Generation};
 ghost use Rattle.flt_store.specs.Store.{IsAlive, IsRunning, driver_of};
 ghost use Rattle.flt_life_model.specs.Actions.{IsPossible, action_of};
-ghost use Rattle.flt_life_model.specs.Answers.{Told, told_with};
+ghost use Rattle.flt_life_model.specs.Answers.{told_with};
 ghost use Rattle.flt_life_model.specs.Draining.{WritesJob};
-ghost use Rattle.flt_life_model.specs.Journal.{Journal};
-ghost use Rattle.flt_life_model.specs.Played.{IsGot};
-ghost use Rattle.flt_life_model.specs.SoFar.{IsCaused};
-ghost use Rattle.flt_lives.specs.Living.{IsLiving, IsUnderWay};
+ghost use Rattle.flt_lives.specs.Living.{IsUnderWay};
 ghost use Rattle.flt_live.specs.Draining.{HasDrained, IsJobTaken};
-ghost use Rattle.flt_live.specs.Made.{Finds, IsNoArm, IsSave, MakesStep, with_save};
+ghost use Rattle.flt_live.specs.Made.{IsNoArm, MakesStep, ReadsSo, SavesSo};
 
 use arrayvec::ArrayVec;
 use flt_config::ValidConfig;
@@ -59,14 +55,7 @@ fn save<D: Blocks + Drop>(
     ensures config { config_of unit.new ≡ config_of unit.old }
     ensures under_way { IsUnderWay config.now (state_of unit.new) }
     ensures alive { IsAlive config.now store.new }
-    ensures living { (first : Generation) (journal : Journal) (told : List Told) (response : List ℕ)
-        → IsLiving config.now first journal told (state_of unit.old) store.old
-        → IsLiving config.now first (with_save (told_with response result) journal) (told_with response result ∷ told) (state_of unit.new) store.new }
-    ensures is { (response : List ℕ) → IsSave (told_with response result) }
-    ensures caused { (begun : ℕ) (told : List Told) (response : List ℕ) → IsCaused config.now begun told store.old
-        → IsCaused config.now begun (told_with response result ∷ told) store.new }
-    ensures applications { SameApplications (driver_of store.old).value (driver_of store.new).value }
-    ensures follows { Follows (driver_of store.old) (driver_of store.new) }
+    ensures saves { (response : List ℕ) → SavesSo config.now (state_of unit.old) (state_of unit.new) store.old store.new (told_with response result) }
 {
     take_snapshot(unit, buffers);
     match store.save(config, &buffers.state) {
@@ -91,15 +80,7 @@ fn get<D: Blocks + Drop>(
     requires block { block < config.now.blocks }
     requires alive { IsAlive config.now store.old }
     ensures alive { IsAlive config.now store.new }
-    ensures living { (first : Generation) (journal : Journal) (told : List Told) (unit : UnitView) (response : List ℕ)
-        → IsLiving config.now first journal told unit store.old
-        → IsLiving config.now first journal (told_with response result ∷ told) unit store.new }
-    ensures is { (response : List ℕ) → IsGot (told_with response result) }
-    ensures caused { (begun : ℕ) (told : List Told) (response : List ℕ) → IsCaused config.now begun told store.old
-        → IsCaused config.now begun (told_with response result ∷ told) store.new }
-    ensures values { SameValues (driver_of store.old) (driver_of store.new) }
-    ensures found { (response : List ℕ) → Finds ((driver_of store.old).value (application_number block)) (told_with response result) }
-    ensures follows { Follows (driver_of store.old) (driver_of store.new) }
+    ensures reads { (response : List ℕ) → ReadsSo config.now block store.old store.new (told_with response result) }
 {
     let mut bytes = ArrayVec::new();
     match store.get_block(block, &mut bytes) {

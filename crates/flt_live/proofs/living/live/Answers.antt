@@ -46,8 +46,8 @@ returns-in-Started-clause-lived g c =
     life_lived config c.args.number (number_of c.status_by-status.result) before begun last unit from after c.take_lines-end.result boot c.status_by-status.ensures c.begin-boot.ensures between says
     c.say_boot.ensures.later
     (started_goes config before begun last unit between after c.take_lines-end.result boot c.in-Started.generation c.in-Started.start c.in-Started.is
-    (c.take_lines-end.ensures.taken first before.value (begins config first (state_of c.boot.new.self) begun how.1 stands) c.begin-boot.ensures.applications))
-    c.take_lines-end.ensures.cause c.take_lines-end.ensures.cut c.take_lines-end.ensures.later.read c.take_lines-end.ensures.later.write
+    (c.take_lines-end.ensures.all.taken first before.value (begins config first (state_of c.boot.new.self) begun how.1 stands) c.begin-boot.ensures.applications))
+    c.take_lines-end.ensures.all.cause c.take_lines-end.ensures.all.cut c.take_lines-end.ensures.all.later.read c.take_lines-end.ensures.all.later.write
 
 pub returns-in-Dark-clause-lived : goal.returns-in-Dark-clause-lived
 returns-in-Dark-clause-lived g c =
@@ -62,8 +62,8 @@ returns-in-Dark-clause-lived g c =
     let after = talk (ahead_in (g.S.Source.left c.take_dark_lines-end.new.source) c.take_dark_lines-end.new.ear) (g.S.Source.faults c.take_dark_lines-end.new.source) (g.K.Sink.held c.take_dark_lines-end.new.sink) (g.K.Sink.faults c.take_dark_lines-end.new.sink) in
     let says : Says (boot_line c.args.number boot) from between = record { written = on_taken _ c.say_boot.result _ c.in_default.is c.say_boot.ensures.ok; ahead = refl; read_faults = refl } in
     life_lived config c.args.number (number_of c.status_by-status.result) (driver_of c.args.store.now) begun begun unit from after c.take_dark_lines-end.result boot c.status_by-status.ensures c.begin-boot.ensures between says
-    c.say_boot.ensures.later (dark_goes config (driver_of c.args.store.now) begun unit between after c.take_dark_lines-end.result boot c.in-Dark.is c.take_dark_lines-end.ensures.taken)
-    c.take_dark_lines-end.ensures.cause c.take_dark_lines-end.ensures.cut c.take_dark_lines-end.ensures.later.read c.take_dark_lines-end.ensures.later.write
+    c.say_boot.ensures.later (dark_goes config (driver_of c.args.store.now) begun unit between after c.take_dark_lines-end.result boot c.in-Dark.is c.take_dark_lines-end.ensures.all.taken)
+    c.take_dark_lines-end.ensures.all.cause c.take_dark_lines-end.ensures.all.cut c.take_dark_lines-end.ensures.all.later.read c.take_dark_lines-end.ensures.all.later.write
 
 pub returns-in-Refused-clause-lived : goal.returns-in-Refused-clause-lived
 returns-in-Refused-clause-lived g c =

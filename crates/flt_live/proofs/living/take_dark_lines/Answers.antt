@@ -34,13 +34,15 @@ returns-in-Ok-Power g c =
     let is : c.answer_dark_line.result ≡ Ok told.Power = c.in-Ok-Power.is ∙ ap Ok c.in-Ok-Power.field-0-is in
     record {
       ready = c.answer_dark_line.ensures.ready;
-      taken = dark_power_ends c.args.config.now g.K.Sink.held g.K.Sink.faults c.loop.sink c.answer_dark_line.new.sink
-          (talk (ahead_in (g.S.Source.left c.args.source.now) c.args.ear.now) (g.S.Source.faults c.args.source.now) (g.K.Sink.held c.args.sink.now) (g.K.Sink.faults c.args.sink.now))
-          (ahead_in (g.S.Source.left c.loop.source) c.loop.ear) (ahead_in (g.S.Source.left c.hear.new.source) c.hear.new.self) (g.S.Source.faults c.loop.source) (g.S.Source.faults c.hear.new.source)
-          c.in-Ok.ended (kept_in c.hear.new.self) c.text.result.now c.in-Ok.ensures.line other c.text.ensures was.going c.answer_dark_line.result answered is;
-      cause = tt;
-      cut = tt;
-      later = record { read = omega (arith, was.later_read, c.in-Ok.ensures.cause.later); write = omega (arith, was.later_write, answered.written.later) };
+      all = record {
+        taken = dark_power_ends c.args.config.now g.K.Sink.held g.K.Sink.faults c.loop.sink c.answer_dark_line.new.sink
+            (talk (ahead_in (g.S.Source.left c.args.source.now) c.args.ear.now) (g.S.Source.faults c.args.source.now) (g.K.Sink.held c.args.sink.now) (g.K.Sink.faults c.args.sink.now))
+            (ahead_in (g.S.Source.left c.loop.source) c.loop.ear) (ahead_in (g.S.Source.left c.hear.new.source) c.hear.new.self) (g.S.Source.faults c.loop.source) (g.S.Source.faults c.hear.new.source)
+            c.in-Ok.ended (kept_in c.hear.new.self) c.text.result.now c.in-Ok.ensures.line other c.text.ensures was.going c.answer_dark_line.result answered is;
+        cause = tt;
+        cut = tt;
+        later = record { read = omega (arith, was.later_read, c.in-Ok.ensures.cause.later); write = omega (arith, was.later_write, answered.written.later) };
+      };
     }
 
 pub returns-in-Err-answer_dark_line : goal.returns-in-Err-answer_dark_line
@@ -51,12 +53,14 @@ returns-in-Err-answer_dark_line g c =
     let start = talk (ahead_in (g.S.Source.left c.args.source.now) c.args.ear.now) (g.S.Source.faults c.args.source.now) (g.K.Sink.held c.args.sink.now) (g.K.Sink.faults c.args.sink.now) in
     record {
       ready = c.answer_dark_line.ensures.ready;
-      taken = lost_anyway c.in-Err-answer_dark_line.fault c.lost_by.result _ c.lost_by.ensures;
-      cause = lost_for (g.K.Sink.faults c.args.sink.now) (g.K.Sink.faults c.loop.sink) (g.K.Sink.faults c.answer_dark_line.new.sink) c.in-Err-answer_dark_line.fault c.lost_by.result c.lost_by.ensures was.later_write
-          (λ failed. answered.written.cause (c.in-Err-answer_dark_line.is ∙ ap Err failed));
-      cut = lost_cut c.in-Err-answer_dark_line.fault c.lost_by.result _ c.lost_by.ensures
-          (dark_lost_ends c.args.config.now g.K.Sink.held g.K.Sink.faults c.loop.sink c.answer_dark_line.new.sink start (ahead_in (g.S.Source.left c.loop.source) c.loop.ear) (ahead_in (g.S.Source.left c.hear.new.source) c.hear.new.self)
-          (g.S.Source.faults c.loop.source) (g.S.Source.faults c.hear.new.source) c.in-Ok.ended (kept_in c.hear.new.self) c.text.result.now c.in-Ok.ensures.line other c.text.ensures was.going c.answer_dark_line.result answered
-          c.in-Err-answer_dark_line.fault c.in-Err-answer_dark_line.is);
-      later = record { read = omega (arith, was.later_read, c.in-Ok.ensures.cause.later); write = omega (arith, was.later_write, answered.written.later) };
+      all = record {
+        taken = lost_anyway c.in-Err-answer_dark_line.fault c.lost_by.result _ c.lost_by.ensures;
+        cause = lost_for (g.K.Sink.faults c.args.sink.now) (g.K.Sink.faults c.loop.sink) (g.K.Sink.faults c.answer_dark_line.new.sink) c.in-Err-answer_dark_line.fault c.lost_by.result c.lost_by.ensures was.later_write
+            (λ failed. answered.written.cause (c.in-Err-answer_dark_line.is ∙ ap Err failed));
+        cut = lost_cut c.in-Err-answer_dark_line.fault c.lost_by.result _ c.lost_by.ensures
+            (dark_lost_ends c.args.config.now g.K.Sink.held g.K.Sink.faults c.loop.sink c.answer_dark_line.new.sink start (ahead_in (g.S.Source.left c.loop.source) c.loop.ear) (ahead_in (g.S.Source.left c.hear.new.source) c.hear.new.self)
+            (g.S.Source.faults c.loop.source) (g.S.Source.faults c.hear.new.source) c.in-Ok.ended (kept_in c.hear.new.self) c.text.result.now c.in-Ok.ensures.line other c.text.ensures was.going c.answer_dark_line.result answered
+            c.in-Err-answer_dark_line.fault c.in-Err-answer_dark_line.is);
+        later = record { read = omega (arith, was.later_read, c.in-Ok.ensures.cause.later); write = omega (arith, was.later_write, answered.written.later) };
+      };
     }

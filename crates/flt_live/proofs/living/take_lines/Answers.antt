@@ -9,7 +9,7 @@ use Rattle.flt_live.specs.declared.reader.Line.{Line}
 use Rattle.flt_live.specs.declared.reader.Line.TheVariants.{Ended}
 use Rattle.flt_live.specs.Ahead.{TakesLine, ahead_in, kept_in}
 use Rattle.flt_live.specs.Heard.{talk}
-use Rattle.flt_live.proofs.Hearing.{lost_anyway, lost_cut, lost_ends, lost_for, going_first, going_more, power_ends, end_ends, unread_ends, rose_later}
+use Rattle.flt_live.proofs.Hearing.{cut_at_once, lost_anyway, lost_cut, lost_ends, lost_for, going_first, going_more, power_ends, end_ends, unread_ends, rose_later}
 use Rattle.flt_live.proofs.living.take_lines.Goals as goal
 
 pub loop-init : goal.loop-init
@@ -43,25 +43,37 @@ loop-preserved g c =
           c.in-Ok-hear.ended (kept_in c.hear.new.self) c.text-text.result.now c.in-Ok-hear.ensures.line other c.text-text.ensures (was.going first found living same) c.answer_line.result answered is;
     }
 
-pub returns-in-Ok-Ended-clause-taken : goal.returns-in-Ok-Ended-clause-taken
-returns-in-Ok-Ended-clause-taken g c first found living same =
+pub returns-in-Ok-Ended-clause-all : goal.returns-in-Ok-Ended-clause-all
+returns-in-Ok-Ended-clause-all g c =
     let ahead = ahead_in (g.S.Source.left c.loop.source) c.loop.ear in
     let next_ahead = ahead_in (g.S.Source.left c.hear.new.source) c.hear.new.self in
-    end_ends c.args.config.now first found (driver_of c.args.store.now)
+    let was = c.loop.invariant in
+    record {
+      taken = λ first found living same. end_ends c.args.config.now first found (driver_of c.args.store.now)
     (talk (ahead_in (g.S.Source.left c.args.source.now) c.args.ear.now) (g.S.Source.faults c.args.source.now) (g.K.Sink.held c.args.sink.now) (g.K.Sink.faults c.args.sink.now))
     (talk ahead (g.S.Source.faults c.loop.source) (g.K.Sink.held c.loop.sink) (g.K.Sink.faults c.loop.sink))
     (talk next_ahead (g.S.Source.faults c.hear.new.source) (g.K.Sink.held c.loop.sink) (g.K.Sink.faults c.loop.sink))
     (state_of c.loop.unit) c.loop.queue c.loop.store (c.loop.invariant.going first found living same) refl (kept_in c.hear.new.self)
-    (subst (λ (e : Line). TakesLine ahead next_ahead e (kept_in c.hear.new.self)) c.in-Ok-Ended.field-0-is c.in-Ok-Ended.ensures.line)
+    (subst (λ (e : Line). TakesLine ahead next_ahead e (kept_in c.hear.new.self)) c.in-Ok-Ended.field-0-is c.in-Ok-Ended.ensures.line);
+      cause = tt;
+      cut = tt;
+      later = record { read = omega (arith, was.later_read, c.in-Ok-Ended.ensures.cause.later); write = was.later_write };
+    }
 
-pub returns-in-Err-clause-taken : goal.returns-in-Err-clause-taken
-returns-in-Err-clause-taken g c first found living same =
-    unread_ends c.args.config.now first found (driver_of c.args.store.now)
+pub returns-in-Err-clause-all : goal.returns-in-Err-clause-all
+returns-in-Err-clause-all g c =
+    let was = c.loop.invariant in
+    record {
+      taken = λ first found living same. unread_ends c.args.config.now first found (driver_of c.args.store.now)
     (talk (ahead_in (g.S.Source.left c.args.source.now) c.args.ear.now) (g.S.Source.faults c.args.source.now) (g.K.Sink.held c.args.sink.now) (g.K.Sink.faults c.args.sink.now))
     (talk (ahead_in (g.S.Source.left c.loop.source) c.loop.ear) (g.S.Source.faults c.loop.source) (g.K.Sink.held c.loop.sink) (g.K.Sink.faults c.loop.sink))
     (talk (ahead_in (g.S.Source.left c.hear.new.source) c.hear.new.self) (g.S.Source.faults c.hear.new.source) (g.K.Sink.held c.loop.sink) (g.K.Sink.faults c.loop.sink))
     (state_of c.loop.unit) c.loop.queue c.loop.store (c.loop.invariant.going first found living same) refl
-    (rose_later (g.S.Source.faults c.args.source.now) (g.S.Source.faults c.loop.source) (g.S.Source.faults c.hear.new.source) c.loop.invariant.later_read c.in-Err.ensures.cause.failed)
+    (rose_later (g.S.Source.faults c.args.source.now) (g.S.Source.faults c.loop.source) (g.S.Source.faults c.hear.new.source) c.loop.invariant.later_read c.in-Err.ensures.cause.failed);
+      cause = tt;
+      cut = tt;
+      later = record { read = omega (arith, was.later_read, c.in-Err.ensures.cause.later); write = was.later_write };
+    }
 
 pub returns-in-Ok-Power : goal.returns-in-Ok-Power
 returns-in-Ok-Power g c =
@@ -72,14 +84,16 @@ returns-in-Ok-Power g c =
     record {
       same = c.answer_line.ensures.same;
       ready = c.answer_line.ensures.ready;
-      taken = λ first found living same. power_ends c.args.config.now first found (driver_of c.args.store.now) g.K.Sink.held g.K.Sink.faults c.loop.sink c.answer_line.new.sink
-          (talk (ahead_in (g.S.Source.left c.args.source.now) c.args.ear.now) (g.S.Source.faults c.args.source.now) (g.K.Sink.held c.args.sink.now) (g.K.Sink.faults c.args.sink.now))
-          (ahead_in (g.S.Source.left c.loop.source) c.loop.ear) (ahead_in (g.S.Source.left c.hear.new.source) c.hear.new.self) (g.S.Source.faults c.loop.source) (g.S.Source.faults c.hear.new.source)
-          (state_of c.loop.unit) (state_of c.answer_line.new.unit) c.loop.queue c.answer_line.new.queue c.loop.store c.answer_line.new.store
-          c.in-Ok-hear.ended (kept_in c.hear.new.self) c.text-text.result.now c.in-Ok-hear.ensures.line other c.text-text.ensures (was.going first found living same) c.answer_line.result answered is;
-      cause = tt;
-      cut = tt;
-      later = record { read = omega (arith, was.later_read, c.in-Ok-hear.ensures.cause.later); write = omega (arith, was.later_write, answered.written.later) };
+      all = record {
+        taken = λ first found living same. power_ends c.args.config.now first found (driver_of c.args.store.now) g.K.Sink.held g.K.Sink.faults c.loop.sink c.answer_line.new.sink
+            (talk (ahead_in (g.S.Source.left c.args.source.now) c.args.ear.now) (g.S.Source.faults c.args.source.now) (g.K.Sink.held c.args.sink.now) (g.K.Sink.faults c.args.sink.now))
+            (ahead_in (g.S.Source.left c.loop.source) c.loop.ear) (ahead_in (g.S.Source.left c.hear.new.source) c.hear.new.self) (g.S.Source.faults c.loop.source) (g.S.Source.faults c.hear.new.source)
+            (state_of c.loop.unit) (state_of c.answer_line.new.unit) c.loop.queue c.answer_line.new.queue c.loop.store c.answer_line.new.store
+            c.in-Ok-hear.ended (kept_in c.hear.new.self) c.text-text.result.now c.in-Ok-hear.ensures.line other c.text-text.ensures (was.going first found living same) c.answer_line.result answered is;
+        cause = tt;
+        cut = tt;
+        later = record { read = omega (arith, was.later_read, c.in-Ok-hear.ensures.cause.later); write = omega (arith, was.later_write, answered.written.later) };
+      };
     }
 
 pub returns-in-Err-answer_line : goal.returns-in-Err-answer_line
@@ -95,13 +109,23 @@ returns-in-Err-answer_line g c =
     record {
       same = c.answer_line.ensures.same;
       ready = c.answer_line.ensures.ready;
-      taken = λ first found lives same. lost_anyway c.in-Err-answer_line.fault c.lost_by.result _ c.lost_by.ensures;
-      cause = lost_for (g.K.Sink.faults c.args.sink.now) (g.K.Sink.faults c.loop.sink) (g.K.Sink.faults c.answer_line.new.sink) c.in-Err-answer_line.fault c.lost_by.result c.lost_by.ensures was.later_write
-          (λ failed. answered.written.cause (c.in-Err-answer_line.is ∙ ap Err failed));
-      cut = lost_cut c.in-Err-answer_line.fault c.lost_by.result _ c.lost_by.ensures
-          (lost_ends c.args.config.now living.0 values (driver_of c.args.store.now) g.K.Sink.held g.K.Sink.faults c.loop.sink c.answer_line.new.sink start ahead next_ahead (g.S.Source.faults c.loop.source) (g.S.Source.faults c.hear.new.source)
-          (state_of c.loop.unit) (state_of c.answer_line.new.unit) c.loop.queue c.answer_line.new.queue c.loop.store c.answer_line.new.store
-          c.in-Ok-hear.ended (kept_in c.hear.new.self) c.text-text.result.now c.in-Ok-hear.ensures.line other c.text-text.ensures (was.going living.0 values living.1 (λ block below. refl)) c.answer_line.result answered
-          c.in-Err-answer_line.fault c.in-Err-answer_line.is);
-      later = record { read = omega (arith, was.later_read, c.in-Ok-hear.ensures.cause.later); write = omega (arith, was.later_write, answered.written.later) };
+      all = record {
+        taken = λ first found lives same. lost_anyway c.in-Err-answer_line.fault c.lost_by.result _ c.lost_by.ensures;
+        cause = lost_for (g.K.Sink.faults c.args.sink.now) (g.K.Sink.faults c.loop.sink) (g.K.Sink.faults c.answer_line.new.sink) c.in-Err-answer_line.fault c.lost_by.result c.lost_by.ensures was.later_write
+            (λ failed. answered.written.cause (c.in-Err-answer_line.is ∙ ap Err failed));
+        cut = lost_cut c.in-Err-answer_line.fault c.lost_by.result _ c.lost_by.ensures
+            (lost_ends c.args.config.now living.0 values (driver_of c.args.store.now) g.K.Sink.held g.K.Sink.faults c.loop.sink c.answer_line.new.sink start ahead next_ahead (g.S.Source.faults c.loop.source) (g.S.Source.faults c.hear.new.source)
+            (state_of c.loop.unit) (state_of c.answer_line.new.unit) c.loop.queue c.answer_line.new.queue c.loop.store c.answer_line.new.store
+            c.in-Ok-hear.ended (kept_in c.hear.new.self) c.text-text.result.now c.in-Ok-hear.ensures.line other c.text-text.ensures (was.going living.0 values living.1 (λ block below. refl)) c.answer_line.result answered
+            c.in-Err-answer_line.fault c.in-Err-answer_line.is);
+        later = record { read = omega (arith, was.later_read, c.in-Ok-hear.ensures.cause.later); write = omega (arith, was.later_write, answered.written.later) };
+      };
     }
+
+pub returns-in_default-clause-all : goal.returns-in_default-clause-all
+returns-in_default-clause-all g c = record {
+  taken = λ first found living same. tt;
+  cause = tt;
+  cut = cut_at_once c.args.config.now _ _ _ _;
+  later = record { read = omega arith; write = omega arith };
+}

@@ -1,8 +1,29 @@
+use Rattle.std.proofs.Common.{◌∷◌, List}
+use Rattle.flt_config.specs.declared.config.Config.{Config}
+use Rattle.flt_dcm.specs.Unit.{UnitView}
+use Rattle.flt_flash.specs.declared.blocks.Blocks.{Ghosts}
+use Rattle.flt_store.specs.declared.store.Store.{Store}
+use Rattle.flt_store.specs.Store.{IsRunning}
+use Rattle.flt_store_model.specs.Holding.{Generation}
+use Rattle.flt_life_model.specs.Answers.{Told}
+use Rattle.flt_life_model.specs.Journal.{Journal}
+use Rattle.flt_life_model.specs.declared.answer.StepAnswer.TheVariants as answers
 use Rattle.flt_life_model.proofs.Causing.{caused_read, caused_unread}
 use Rattle.flt_life_model.proofs.HeldBlocks.{gets_bytes, gets_none}
-use Rattle.flt_life_model.proofs.Keeping.{kept_other}
-use Rattle.flt_life_model.specs.declared.answer.StepAnswer.TheVariants as answers
+use Rattle.flt_life_model.proofs.Keeping.{IsNoSave, kept_other}
+use Rattle.flt_lives.specs.Living.{IsLiving}
 use Rattle.flt_live.proofs.making.get.Goals as goal
+
+-- A read leaves the generations as they are.
+read_on : {B : Type 0} {b : Ghosts B} (c : Config) (first : Generation) (journal : Journal) (told : List Told) (unit : UnitView) (store next : Store B b) (answer : Told) → IsNoSave answer
+    → ((held spare : Generation) → IsRunning c held spare store → IsRunning c held spare next) → IsLiving c first journal told unit store → IsLiving c first journal (answer ∷ told) unit next
+read_on c first journal told unit store next answer none running living = record {
+  stands = living.stands;
+  held = living.held;
+  spare = living.spare;
+  running = running living.held living.spare living.running;
+  kept = kept_other c first journal told living.held living.spare living.kept answer none;
+}
 
 pub get_block-requires-clause-alive : goal.get_block-requires-clause-alive
 get_block-requires-clause-alive g c = (c.args.config.now, c.requires.block, c.requires.alive)
@@ -16,54 +37,36 @@ returns-in-Ok-false-clause-alive g c = record { held = _; spare = _; running = c
 pub returns-in-Err-clause-alive : goal.returns-in-Err-clause-alive
 returns-in-Err-clause-alive g c = record { held = _; spare = _; running = c.get_block.ensures.running c.args.config.now c.requires.alive.held c.requires.alive.spare c.requires.alive.running }
 
-pub returns-in-Ok-true-clause-living : goal.returns-in-Ok-true-clause-living
-returns-in-Ok-true-clause-living g c = λ first journal told unit response living. record {
-  stands = living.stands;
-  held = living.held;
-  spare = living.spare;
-  running = c.get_block.ensures.running c.args.config.now living.held living.spare living.running;
-  kept = kept_other c.args.config.now first journal told living.held living.spare living.kept (answers.Bytes c.get_block.new.out) tt;
+pub returns-in-Ok-true-clause-reads : goal.returns-in-Ok-true-clause-reads
+returns-in-Ok-true-clause-reads g c = λ response. record {
+  is = tt;
+  living = λ first journal told unit living. read_on c.args.config.now first journal told unit c.args.store.now c.get_block.new.self (answers.Bytes c.get_block.new.out) tt (c.get_block.ensures.running c.args.config.now) living;
+  caused = λ begun told caused.
+      caused_read c.args.config.now begun told c.args.store.now c.get_block.new.self caused (answers.Bytes c.get_block.new.out) tt c.get_block.ensures.follows (c.get_block.ensures.running c.args.config.now caused.held_now caused.spare_now caused.running);
+  found = gets_bytes _ c.in-Ok-true.field-0 _ (c.in-Ok-true.ensures.got c.args.config.now c.requires.alive.held c.requires.alive.spare c.requires.alive.running) c.in-Ok-true.field-0-test;
+  values = c.get_block.ensures.values;
+  follows = c.get_block.ensures.follows;
 }
 
-pub returns-in-Ok-false-clause-living : goal.returns-in-Ok-false-clause-living
-returns-in-Ok-false-clause-living g c = λ first journal told unit response living. record {
-  stands = living.stands;
-  held = living.held;
-  spare = living.spare;
-  running = c.get_block.ensures.running c.args.config.now living.held living.spare living.running;
-  kept = kept_other c.args.config.now first journal told living.held living.spare living.kept answers.NoBlock tt;
+pub returns-in-Ok-false-clause-reads : goal.returns-in-Ok-false-clause-reads
+returns-in-Ok-false-clause-reads g c = λ response. record {
+  is = tt;
+  living = λ first journal told unit living. read_on c.args.config.now first journal told unit c.args.store.now c.get_block.new.self (answers.NoBlock) tt (c.get_block.ensures.running c.args.config.now) living;
+  caused = λ begun told caused.
+      caused_read c.args.config.now begun told c.args.store.now c.get_block.new.self caused (answers.NoBlock) tt c.get_block.ensures.follows (c.get_block.ensures.running c.args.config.now caused.held_now caused.spare_now caused.running);
+  found = gets_none _ c.in-Ok-false.field-0 _ (c.in-Ok-false.ensures.got c.args.config.now c.requires.alive.held c.requires.alive.spare c.requires.alive.running) c.in-Ok-false.field-0-test;
+  values = c.get_block.ensures.values;
+  follows = c.get_block.ensures.follows;
 }
 
-pub returns-in-Err-clause-living : goal.returns-in-Err-clause-living
-returns-in-Err-clause-living g c = λ first journal told unit response living. record {
-  stands = living.stands;
-  held = living.held;
-  spare = living.spare;
-  running = c.get_block.ensures.running c.args.config.now living.held living.spare living.running;
-  kept = kept_other c.args.config.now first journal told living.held living.spare living.kept answers.BlockFlash tt;
+pub returns-in-Err-clause-reads : goal.returns-in-Err-clause-reads
+returns-in-Err-clause-reads g c = λ response. record {
+  is = tt;
+  living = λ first journal told unit living. read_on c.args.config.now first journal told unit c.args.store.now c.get_block.new.self (answers.BlockFlash) tt (c.get_block.ensures.running c.args.config.now) living;
+  caused = λ begun told caused.
+      caused_unread c.args.config.now begun told c.args.store.now c.get_block.new.self caused c.get_block.ensures.follows
+      (c.in-Err.ensures.flash c.args.config.now caused.held_now caused.spare_now caused.running) (c.get_block.ensures.running c.args.config.now caused.held_now caused.spare_now caused.running);
+  found = tt;
+  values = c.get_block.ensures.values;
+  follows = c.get_block.ensures.follows;
 }
-
-pub returns-in-Ok-true-clause-caused : goal.returns-in-Ok-true-clause-caused
-returns-in-Ok-true-clause-caused g c = λ begun told response caused.
-    caused_read c.args.config.now begun told c.args.store.now c.get_block.new.self caused (answers.Bytes c.get_block.new.out) tt c.get_block.ensures.follows
-    (c.get_block.ensures.running c.args.config.now caused.held_now caused.spare_now caused.running)
-
-pub returns-in-Ok-false-clause-caused : goal.returns-in-Ok-false-clause-caused
-returns-in-Ok-false-clause-caused g c = λ begun told response caused.
-    caused_read c.args.config.now begun told c.args.store.now c.get_block.new.self caused answers.NoBlock tt c.get_block.ensures.follows
-    (c.get_block.ensures.running c.args.config.now caused.held_now caused.spare_now caused.running)
-
-pub returns-in-Err-clause-caused : goal.returns-in-Err-clause-caused
-returns-in-Err-clause-caused g c = λ begun told response caused.
-    caused_unread c.args.config.now begun told c.args.store.now c.get_block.new.self caused c.get_block.ensures.follows
-    (c.in-Err.ensures.flash c.args.config.now caused.held_now caused.spare_now caused.running) (c.get_block.ensures.running c.args.config.now caused.held_now caused.spare_now caused.running)
-
-pub returns-in-Ok-true-clause-found : goal.returns-in-Ok-true-clause-found
-returns-in-Ok-true-clause-found g c = λ response.
-    let alive = c.requires.alive in
-    gets_bytes _ c.in-Ok-true.field-0 _ (c.in-Ok-true.ensures.got c.args.config.now alive.held alive.spare alive.running) c.in-Ok-true.field-0-test
-
-pub returns-in-Ok-false-clause-found : goal.returns-in-Ok-false-clause-found
-returns-in-Ok-false-clause-found g c = λ response.
-    let alive = c.requires.alive in
-    gets_none _ c.in-Ok-false.field-0 _ (c.in-Ok-false.ensures.got c.args.config.now alive.held alive.spare alive.running) c.in-Ok-false.field-0-test

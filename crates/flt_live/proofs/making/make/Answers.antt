@@ -24,8 +24,7 @@ returns-in-Queue-clause-made g c = λ step is.
 pub returns-in-Save-clause-made : goal.returns-in-Save-clause-made
 returns-in-Save-clause-made g c = λ step is.
     let response = c.save.new.buffers.response.items in
-    made_save c.args.config.now step (told_with response c.save.result) (is ∙ c.in-Save.is) (c.save.ensures.is response) (state_of c.args.unit.now) (state_of c.save.new.unit) c.args.queue.now c.args.store.now c.save.new.store
-    (λ first journal earlier living. c.save.ensures.living first journal earlier response living) (λ begun earlier caused. c.save.ensures.caused begun earlier response caused) c.save.ensures.applications c.save.ensures.follows
+    made_save c.args.config.now step (told_with response c.save.result) (is ∙ c.in-Save.is) (state_of c.args.unit.now) (state_of c.save.new.unit) c.args.queue.now c.args.store.now c.save.new.store (c.save.ensures.saves response)
 
 pub returns-in-Get-clause-made : goal.returns-in-Get-clause-made
 returns-in-Get-clause-made g c = λ step is.
@@ -33,9 +32,7 @@ returns-in-Get-clause-made g c = λ step is.
     let most = c.requires.under_way.valid.blocks in
     let here : c.in-Get.block < c.args.config.now.blocks = subst (IsPossible c.args.config.now) c.in-Get.is c.requires.possible in
     let below : c.in-Get.block < applications = omega (arith, here, most) in
-    made_get c.args.config.now step (told_with response c.get.result) c.in-Get.block (is ∙ c.in-Get.is) (c.get.ensures.is response) below (state_of c.args.unit.now) c.args.queue.now c.args.store.now c.get.new.store
-    (λ first journal earlier living. c.get.ensures.living first journal earlier (state_of c.args.unit.now) response living) (λ begun earlier caused. c.get.ensures.caused begun earlier response caused)
-    (c.get.ensures.found response) c.get.ensures.values c.get.ensures.follows
+    made_get c.args.config.now step (told_with response c.get.result) c.in-Get.block (is ∙ c.in-Get.is) below (state_of c.args.unit.now) c.args.queue.now c.args.store.now c.get.new.store (c.get.ensures.reads response)
 
 pub returns-in-Drain-clause-made : goal.returns-in-Drain-clause-made
 returns-in-Drain-clause-made g c = λ step is.
