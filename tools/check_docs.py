@@ -414,13 +414,15 @@ def wrong_runs(commands: list[tuple[Short, str]], with_long: bool) -> Iterator[s
             yield f"'{short.shown}' fails in its short form:\n{given}"
 
 
-def unrun_on(text: str, with_long: bool) -> Iterator[str]:
+def unrun_on(page: str, text: str, with_long: bool) -> Iterator[str]:
     """What is not run of a page, each with what it needs."""
-    for section in re.split(r"^## ", text, flags=re.M):
-        commands = commands_of(section, with_long)
+    table = BEGIN_WITH.findall(text) if os.path.relpath(page, TOP) == "README.md" else []
+    sections = re.split(r"^## ", text, flags=re.M)
+    for commands in [[(it, []) for it in table], *(commands_of(it, with_long) for it in sections)]:
         if commands and wrapper_for(commands) is None:
             absent = ", ".join(sorted(it for it in programs_of(commands) if not kind_of({it})))
-            yield f"'{commands[0][0]}' and the {len(commands) - 1} commands of its section: not built: {absent}"
+            yield f"{len(commands)} commands from '{commands[0][0]}' on: not built: {absent}"
+    for section in sections:
         for command, short in shorts_of(section):
             if short and absent_for(short):
                 yield f"'{command}': not there: {', '.join(absent_for(short))}"
@@ -595,7 +597,7 @@ def main() -> int:
         for what in wrong_on(page, given.long):
             print(f"{os.path.relpath(page, TOP)}: {what}", flush=True)
             wrong += 1
-        for what in unrun_on(text_of(page), given.long):
+        for what in unrun_on(page, text_of(page), given.long):
             print(f"{os.path.relpath(page, TOP)}: not run: {what}", flush=True)
     print(f"pages: {'each is right' if not wrong else f'{wrong} faults'}")
     return 1 if wrong else 0

@@ -123,8 +123,8 @@ class Shorts(unittest.TestCase):
     def test_absent(self) -> None:
         """What is not there is named."""
         self.assertEqual(check_docs.absent_for(Short("a", "b", needs=("sh", "none-such"), programs=("none",))), ["none-such", "the program none"])
-        self.assertEqual(list(check_docs.unrun_on("```console long\n$ rt verdict\n```\n", False)), ["'rt verdict': without --long"])
-        self.assertEqual(list(check_docs.unrun_on("```sh\nrt ci\n```\n", True)), [])
+        self.assertEqual(list(check_docs.unrun_on("page.md", "```console long\n$ rt verdict\n```\n", False)), ["'rt verdict': without --long"])
+        self.assertEqual(list(check_docs.unrun_on("page.md", "```sh\nrt ci\n```\n", True)), [])
 
 
 if __name__ == "__main__":
