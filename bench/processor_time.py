@@ -3,9 +3,9 @@
 
     processor_time.py INPUT PROGRAM[,OTHER] WORDS..
 
-Each program is run fifteen times on these words, with the file INPUT as its standard input; what it prints is let go. Two programs take
+Each program is run fifteen times, or as often as RUNS says, on these words, with the file INPUT as its standard input; what it prints is let go. Two programs take
 turns, so that other work on the machine meets both. For each program a line is printed: the processor time (user and system) of the
-shortest run in microseconds, the fewest page faults, and, of fifteen runs more, the most memory in KB. Another exit status than 0 ends it.
+shortest run in microseconds, the fewest page faults, and, of as many runs more, the most memory in KB. Another exit status than 0 ends it.
 
 User and system time are added: many kernels know their sum exactly, and share it out by samples that miss a short run."""
 
@@ -14,8 +14,7 @@ import os
 import sys
 from typing import List, Tuple
 
-RUNS = 15
-PEAKS = 15
+RUNS = int(os.environ.get("RUNS", "15"))
 
 
 def started(source: str, command: List[str]) -> int:
@@ -59,7 +58,7 @@ def main() -> None:
     commands = [[program, *given.words] for program in given.programs.split(",")]
     runs = [[cost(given.input, command) for command in commands] for _ in range(RUNS)]
     for command, its in zip(commands, zip(*runs)):
-        print(*(min(it) for it in zip(*its)), max(peak(given.input, command) for _ in range(PEAKS)))
+        print(*(min(it) for it in zip(*its)), max(peak(given.input, command) for _ in range(RUNS)))
 
 
 if __name__ == "__main__":

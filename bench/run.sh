@@ -4,20 +4,25 @@
 # 60,000 reports in one lane and in four. For each the processor time (user and system, the best of fifteen), the same by step, page faults, the
 # peak memory, and instructions where valgrind is there. Page faults and instructions are the same each time. OTHER is a second program
 # that takes the same words, such as an earlier build: it is run in turn with the first, and a second line has its figures, and a third the
-# first program's as shares of them.
+# first program's as shares of them. In the environment, PROGRAM is another first program, STEPS another number of steps and reports, LIVES
+# another number of lives, and RUNS another number of runs than fifteen: tools/check_docs.py makes a short run so.
 set -eu
 cd "$(dirname "$0")/.."
 events=${1:-64}
 other=${2:-}
+steps_of_each=${STEPS:-65536}
+reports=${STEPS:-60000}
+lives=${LIVES:-200}
 ./faultmem check </dev/null >/dev/null
-program=crates/faultmem/out/faultmem
+program=${PROGRAM:-crates/faultmem/out/faultmem}
 scripts=$(mktemp -d)
 trap 'rm -rf "$scripts"' EXIT
 
 # The instructions of a run of program $1 on the words behind it, with this standard input; - if they are not counted.
 instructions() {
     command -v valgrind >/dev/null 2>&1 || { echo -; return; }
-    valgrind --tool=callgrind --callgrind-out-file=/dev/null "$@" 2>&1 >/dev/null | sed -n 's/.*Collected : \([0-9]*\).*/\1/p'
+    counted=$(valgrind --tool=callgrind --callgrind-out-file=/dev/null "$@" 2>&1 >/dev/null | sed -n 's/.*Collected : \([0-9]*\).*/\1/p')
+    echo "${counted:--}"
 }
 
 row() {
@@ -50,13 +55,13 @@ row run steps microseconds nanoseconds faults KB instructions
 : >"$scripts/empty"
 measure empty 1 "$scripts/empty" run
 for kind in steps requests jobs; do
-    sh "bench/make_$kind.sh" 65536 "$events" >"$scripts/$kind"
-    measure "$kind" 65536 "$scripts/$kind" run
+    sh "bench/make_$kind.sh" "$steps_of_each" "$events" >"$scripts/$kind"
+    measure "$kind" "$steps_of_each" "$scripts/$kind" run
 done
-sh bench/make_lives.sh 200 "${1:-16}" >"$scripts/lives"
-measure lives 1000 "$scripts/lives" run
+sh bench/make_lives.sh "$lives" "${1:-16}" >"$scripts/lives"
+measure lives $((lives * 5)) "$scripts/lives" run
 sh bench/make_comments.sh >"$scripts/comments"
 measure comments "$(wc -l <"$scripts/comments")" "$scripts/comments" run
 for kind in plain lanes; do
-    measure "load $kind" 60000 /dev/null load 60000 "$kind"
+    measure "load $kind" "$reports" /dev/null load "$reports" "$kind"
 done

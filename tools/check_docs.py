@@ -10,18 +10,21 @@ picture that docs/PICTURES.md says to be made by a command of clients/draw.py is
 run one behind the other, in one shell and in a folder of their own; a line that begins with `> ` goes on with the command above it.
 
 Blocks `console long`, which prove something, are left out without --long. A page has at most the words of LIMITS. A block whose first line names a file of the repository, as ```rust crates/flt_io/src/lib.rt, is a
-quotation: its lines stand there, one behind the other. Commands stand in blocks `console` alone, and in the few blocks `sh`, which are
-not run: those of the gate and of measurements. A link to a heading leads to one.
+quotation: its lines stand there, one behind the other. Commands stand in blocks `console` alone, and in the few blocks `sh`: those of the gate, of
+measurements and of an editor. Of each of these a short form is run, which SHORTS has and which writes no page, or with --long a longer one; the command of the
+gate, which runs this check, is compared with .ci/run. What is not run is named, with what is not there. A link to a heading leads to one.
 """
 import argparse
 import glob
 import os
 import re
+import shutil
 import signal
 import socket
 import subprocess
 import sys
 import tempfile
+from typing import Iterator, NamedTuple
 
 TOP = os.path.dirname(os.path.dirname(os.path.abspath(__file__)))
 PROGRAM = f"{TOP}/crates/faultmem/out/faultmem"
@@ -54,8 +57,90 @@ MARK = "--- command"
 SECONDS = 180
 SECONDS_OF_LONG = 3600
 LIMITS = {"README.md": 900, "docs/PROVED.md": 1700, "docs/DECISIONS.md": 3500, "docs/GATE.md": 1200}
-# Blocks of commands that are not run, in all pages together.
-MOST_UNRUN = 12
+GATE = "rt ci"
+PROGRAMS = ("faultmem", "flt_inspect", "faultmem_live")
+
+
+class Short(NamedTuple):
+    """What is run of a command of a block `sh`: {top} is the repository, {run} and {live} are programs, {unproved} is an option."""
+
+    shown: str
+    short: str
+    # The commands of the system, and the programs, that it needs.
+    needs: tuple[str, ...] = ()
+    programs: tuple[str, ...] = ()
+    # What it prints, as a pattern.
+    due: str = ""
+    # What is run with --long.
+    long: str = ""
+
+
+MEASURED = "{ {how} bench/run.sh; {how} bench/run.sh 256; } | bench/speed_table.py"
+TESTED = "tools/{test}_test.py {count} --live {live} --run {run}"
+SHOWN = {"live": "crates/faultmem_live/out/faultmem_live", "run": "crates/faultmem/out/faultmem"}
+
+
+def filled(text: str, places: dict[str, str]) -> str:
+    """The text with these in the places of their names in braces."""
+    for name, value in places.items():
+        text = text.replace("{" + name + "}", value)
+    return text
+
+
+def tested(test: str, count: str) -> Short:
+    """A test of the live program: the gate makes it as the page shows it, and this check a short one."""
+    short = filled(TESTED, {"test": test, "count": "2"})
+    long = filled(TESTED, {"test": test, "count": count})
+    return Short(filled(long, SHOWN), short, programs=("faultmem", "faultmem_live"), due=rf"^{test}_test: 2 ", long=long)
+
+
+SHORTS = (
+    Short(GATE, ":"),
+    Short(f"{GATE} | tee gate.log", "echo '0 passed, 0 failed: the pages alone are checked' | tee gate.log"),
+    Short("bench/gate.py --write", "bench/gate.py --every 0.1 true", due=r"^\| \*\*all\*\* "),
+    Short(
+        "bench/gate.py sh -c 'cd crates/flt_trace && rt verdict'",
+        "bench/gate.py --every 0.1 sh -c 'cd crates/flt_trace && rt version'",
+        needs=("rt",),
+        due=r"^\| \*\*all\*\* ",
+        long="bench/gate.py sh -c 'cd crates/flt_trace && rt verdict'",
+    ),
+    Short("bench/slowest.py 30", "bench/slowest.py 30", due=r"^\| Seconds \| Function "),
+    Short("bench/stack.sh", "bench/stack.sh {live}", programs=("faultmem_live",), due=r"^\d+ KB$"),
+    Short(
+        "{ bench/run.sh; bench/run.sh 256; } | bench/speed_table.py --write",
+        filled(MEASURED, {"how": "PROGRAM={run} RUNS=1 STEPS=1024 LIVES=4"}),
+        needs=("valgrind",),
+        programs=("faultmem",),
+        due=r"^\| lives \| 256 \| ",
+        long=filled(MEASURED, {"how": "PROGRAM={run}"}),
+    ),
+    Short(
+        "mkdir -p ~/.vim && cp -r tools/vim/syntax tools/vim/ftdetect ~/.vim/",
+        "HOME=$PWD && mkdir -p ~/.vim && cp -r tools/vim/syntax tools/vim/ftdetect ~/.vim/",
+    ),
+    Short(
+        "vim crates/examples/data/first.script",
+        "vim -es '+filetype on | edit' '+redir! > kind' '+silent echo &filetype' '+qa!' crates/examples/data/first.script; cat kind; echo",
+        needs=("vim",),
+        due="^faultmem$",
+    ),
+    tested("live", "100"),
+    tested("kill", "50"),
+    Short("./faultmem check </dev/null", "./faultmem check </dev/null", programs=("faultmem",)),
+    Short("./faultmem trace </dev/null", "./faultmem trace </dev/null", programs=("flt_inspect",)),
+    Short(
+        "./faultmem live crates/faultmem_live/data/config </dev/null",
+        "./faultmem live crates/faultmem_live/data/config </dev/null",
+        programs=("faultmem_live",),
+    ),
+    Short(
+        "mkdir -p made && tools/release.sh gate.log made",
+        "mkdir -p made && {top}/tools/release.sh {unproved} gate.log made",
+        programs=PROGRAMS,
+        due=r"/made/faultmem-.*\.tar\.gz$",
+    ),
+)
 FENCED = re.compile(r"^```([^\n]*)\n(.*?)^```$", re.M | re.S)
 COMMAND = re.compile(r"(?:\$ |\./faultmem |rt [a-z]|(?:clients|tools|bench)/[a-z_]+\.(?:py|sh) |(?:cd|export|mkdir|printf|python3) )")
 # The commands of README's first table.
@@ -200,15 +285,27 @@ def commands_of(section: str, with_long: bool) -> list[tuple[str, list[str]]]:
     return found
 
 
+def file_of(program: str, kind: str) -> str:
+    """The file of a program of this kind: `proved`, or `try` where it is without its proofs."""
+    return f"{TOP}/crates/{program}/out/{'try' if kind == 'try' else program}"
+
+
+def kind_of(programs: set[str]) -> str:
+    """Of which kind all these programs are built: of none where it is empty."""
+    kinds = ("proved", "try")
+    return next((kind for kind in kinds if all(os.access(file_of(it, kind), os.X_OK) for it in programs)), "")
+
+
+def programs_of(commands) -> set[str]:
+    """The programs that these commands name."""
+    return {program for command, _ in commands for words, program in NEEDS if words.search(command)}
+
+
 def wrapper_for(commands):
     """The command in place of ./faultmem: with `try` where a program is built without its proofs alone; none where one is not built."""
     if os.environ.get("FAULTMEM"):
         return os.environ["FAULTMEM"]
-    crates = {crate for command, _ in commands for words, crate in NEEDS if words.search(command)}
-    out = [(f"{TOP}/crates/{crate}/out/{crate}", f"{TOP}/crates/{crate}/out/try") for crate in crates]
-    if all(os.access(proved, os.X_OK) for proved, _ in out):
-        return f"{TOP}/faultmem"
-    return f"{TOP}/faultmem try" if all(os.access(tried, os.X_OK) for _, tried in out) else None
+    return {"proved": f"{TOP}/faultmem", "try": f"{TOP}/faultmem try"}.get(kind_of(programs_of(commands)))
 
 
 def free_port():
@@ -228,7 +325,7 @@ def printed_by(commands, wrapper, port, seconds=SECONDS):
     """What these commands print, each in a text of its own, run in a new folder that looks like the top of the repository."""
     script = "".join(f"echo; echo '{MARK}'\n{command}\n" for command, _ in commands)
     with tempfile.TemporaryDirectory() as folder:
-        for name in ("clients", "crates", "crates.txt", "docs", "tools"):
+        for name in ("bench", "clients", "crates", "crates.txt", "docs", "tools"):
             os.symlink(f"{TOP}/{name}", f"{folder}/{name}")
         with open(f"{folder}/faultmem", "w", encoding="utf-8") as shim:
             # A page may say `try` itself.
@@ -267,6 +364,76 @@ def wrong_commands(text, with_long=False):
             given = given.replace(str(port + 1), "13401").replace(str(port), "13400")
             if given.rstrip("\n") != due.rstrip("\n"):
                 yield f"'{command}' prints another text:\n{given}"
+
+
+def shorts_of(section: str) -> list[tuple[str, Short | None]]:
+    """The commands of the blocks `sh` of a section, each with what is run of it."""
+    lines = [line for info, block in FENCED.findall(section) if info == "sh" for line in block.split("\n") if line]
+    return [(line, next((it for it in SHORTS if it.shown == line), None)) for line in lines]
+
+
+def absent_for(short: Short) -> list[str]:
+    """What a command needs and is not here, by name."""
+    absent = [it for it in short.needs if shutil.which(it) is None]
+    if kind_of(set(short.programs)):
+        return absent
+    # Where each is there, they are not all of one kind.
+    unbuilt = [it for it in short.programs if not kind_of({it})] or short.programs
+    return absent + [f"the program {it}" for it in unbuilt]
+
+
+def wrong_shorts(text: str, with_long: bool = False, run=f"{TOP}/.ci/run") -> Iterator[str]:
+    """Commands of blocks `sh` that nobody runs, that the gate is not, or whose short forms fail."""
+    for section in re.split(r"^## ", text, flags=re.M):
+        commands = []
+        for command, short in shorts_of(section):
+            if short is None:
+                yield f"'{command}' has no short form, so nobody runs it"
+            elif command.split(" | ")[0] == GATE and GATE not in text_of(run).split("\n"):
+                yield f"'{command}' is not the gate of .ci/run"
+            elif not absent_for(short):
+                commands.append((short, kind_of(set(short.programs))))
+        yield from wrong_runs(commands, with_long)
+
+
+def wrong_runs(commands: list[tuple[Short, str]], with_long: bool) -> Iterator[str]:
+    """Those of these commands of a section that do not end with status 0, or print something else than is due."""
+    lines = []
+    for short, kind in commands:
+        places = {"top": TOP, "run": file_of("faultmem", kind), "live": file_of("faultmem_live", kind), "unproved": "--unproved" if kind == "try" else ""}
+        line = filled(short.long if with_long and short.long else short.short, places)
+        lines.append((f"{line}\necho \"status $?\"", []))
+    if not lines:
+        return
+    wrapper = f"{TOP}/faultmem" + (" try" if any(kind == "try" for _, kind in commands) else "")
+    printed = printed_by(lines, wrapper, free_port(), SECONDS_OF_LONG if with_long else SECONDS)
+    for at, (short, _) in enumerate(commands):
+        given = printed[at] if at < len(printed) else ""
+        due = "" if with_long and short.long else short.due
+        if not given.endswith("status 0\n") or not re.search(due, given, re.M):
+            yield f"'{short.shown}' fails in its short form:\n{given}"
+
+
+def unrun_on(page: str, text: str, with_long: bool) -> Iterator[str]:
+    """What is not run of a page, each with what it needs."""
+    table = BEGIN_WITH.findall(text) if os.path.relpath(page, TOP) == "README.md" else []
+    sections = re.split(r"^## ", text, flags=re.M)
+    for commands in [[(it, []) for it in table], *(commands_of(it, with_long) for it in sections)]:
+        if commands and wrapper_for(commands) is None:
+            absent = ", ".join(sorted(it for it in programs_of(commands) if not kind_of({it})))
+            yield f"{len(commands)} commands from '{commands[0][0]}' on: not built: {absent}"
+    for section in sections:
+        for command, short in shorts_of(section):
+            if short and absent_for(short):
+                yield f"'{command}': not there: {', '.join(absent_for(short))}"
+    for picture, word, _ in PICTURE.findall(text):
+        if not os.access(DRAWN[word], os.X_OK):
+            yield f"the picture {picture}: not built: {os.path.basename(DRAWN[word])}"
+    scripts = len(re.findall(r"^```\nlife 1 ", text, re.M))
+    if scripts and not os.access(PROGRAM, os.X_OK):
+        yield f"scripts of {scripts} reports: not built: {os.path.basename(PROGRAM)}"
+    for block in [] if with_long else re.findall(r"^```console long\n(.*)$", text, re.M):
+        yield f"'{block[2:]}': without --long"
 
 
 def wrong_beginnings(page: str, text: str):
@@ -408,6 +575,7 @@ def wrong_on(page: str, with_long: bool):
     yield from wrong_blocks(text)
     yield from wrong_reports(text)
     yield from wrong_commands(text, with_long)
+    yield from wrong_shorts(text, with_long)
     yield from wrong_beginnings(page, text)
     yield from wrong_pictures(text)
     yield from wrong_tree(page, text)
@@ -429,10 +597,8 @@ def main() -> int:
         for what in wrong_on(page, given.long):
             print(f"{os.path.relpath(page, TOP)}: {what}", flush=True)
             wrong += 1
-    unrun = sum(info == "sh" for page in all_pages for info, _ in FENCED.findall(text_of(page)))
-    if unrun > MOST_UNRUN:
-        print(f"the pages have {unrun} blocks of commands that are not run, and {MOST_UNRUN} are allowed")
-        wrong += 1
+        for what in unrun_on(page, text_of(page), given.long):
+            print(f"{os.path.relpath(page, TOP)}: not run: {what}", flush=True)
     print(f"pages: {'each is right' if not wrong else f'{wrong} faults'}")
     return 1 if wrong else 0
 

@@ -1,11 +1,12 @@
 #!/usr/bin/env python3
 """Tests of the check of the pages: each fault is found, and nothing else."""
+import glob
 import os
 import tempfile
 import unittest
 
 import check_docs
-from check_docs import TOP
+from check_docs import TOP, Short
 
 CONSOLE = """# A page
 
@@ -89,6 +90,41 @@ class Pages(unittest.TestCase):
             with open(page, "w", encoding="utf-8") as it:
                 it.write(text)
             self.assertEqual(list(check_docs.wrong_headings(page, text)), ["page.md has no heading #none"])
+
+
+class Shorts(unittest.TestCase):
+    """The short forms of the commands of blocks `sh`."""
+
+    def test_each_is_shown(self) -> None:
+        """Each command of such a block has one, and each is of a command of a page."""
+        pages = [f"{TOP}/README.md", *glob.glob(f"{TOP}/*/*.md")]
+        commands = [it for page in pages for it in check_docs.shorts_of(check_docs.text_of(page))]
+        self.assertEqual([command for command, short in commands if short is None], [])
+        self.assertEqual({short for _, short in commands}, set(check_docs.SHORTS))
+
+    def test_unknown(self) -> None:
+        """A command without one is a fault."""
+        self.assertEqual(len(list(check_docs.wrong_shorts("```sh\nrt cii\n```\n"))), 1)
+
+    def test_gate(self) -> None:
+        """The command of the gate is a line of .ci/run."""
+        self.assertEqual(list(check_docs.wrong_shorts("```sh\nrt ci\n```\n")), [])
+        with tempfile.NamedTemporaryFile("w", encoding="utf-8") as it:
+            it.write("rt ci --quick\n")
+            it.flush()
+            self.assertEqual(len(list(check_docs.wrong_shorts("```sh\nrt ci\n```\n", run=it.name))), 1)
+
+    def test_runs(self) -> None:
+        """Each is run, with the programs in the places of their names, and has to end well and to print what is due."""
+        good = Short("a", "echo {live}; echo b", due="/faultmem_live/out/try$", long="false")
+        for short, with_long, faults in ((good, False, 0), (good, True, 1), (Short("a", "echo b", due="^c$"), False, 1), (Short("a", "exit 1"), False, 1)):
+            self.assertEqual(len(list(check_docs.wrong_runs([(short, "try")], with_long))), faults, short)
+
+    def test_absent(self) -> None:
+        """What is not there is named."""
+        self.assertEqual(check_docs.absent_for(Short("a", "b", needs=("sh", "none-such"), programs=("none",))), ["none-such", "the program none"])
+        self.assertEqual(list(check_docs.unrun_on("page.md", "```console long\n$ rt verdict\n```\n", False)), ["'rt verdict': without --long"])
+        self.assertEqual(list(check_docs.unrun_on("page.md", "```sh\nrt ci\n```\n", True)), [])
 
 
 if __name__ == "__main__":

@@ -6,3 +6,4 @@ pub mod Laws
 pub mod FieldLaws
 pub mod RangeExamples
 pub mod Plain
+pub mod FitExamples

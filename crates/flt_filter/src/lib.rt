@@ -9,6 +9,7 @@ mod answering;
 mod reading;
 mod telling;
 mod verdict;
+pub mod worked;
 
 pub use answering::{Judge, answer};
 pub use reading::{InputFault, read_input};
