@@ -6,4 +6,3 @@ pub mod Laws
 pub mod FieldLaws
 pub mod RangeExamples
 pub mod Plain
-pub mod FitExamples

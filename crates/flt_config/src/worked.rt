@@ -1,5 +1,4 @@
-//! Worked examples of the check and of what fits, which the prover computes.
-ghost use Rattle.flt_config.specs.FitExamples.{EntriesFit, StatesFit};
+//! Worked examples of the check, which the prover computes.
 ghost use Rattle.flt_config.specs.RangeExamples.{EndsAreAccepted, BelowIsTold, AboveIsTold, OthersAreTold};
 
 /// Configurations at both ends of each range are accepted.
@@ -20,14 +19,4 @@ pub fn above_is_told()
 /// So are numbers that belong to no event, the first of several, DTCs that occur twice, and lack of room.
 pub fn others_are_told()
     ensures { OthersAreTold }
-{}
-
-/// States of an event that fit, and others.
-pub fn states_fit_or_not()
-    ensures { StatesFit }
-{}
-
-/// Entries that fit, and others.
-pub fn entries_fit_or_not()
-    ensures { EntriesFit }
 {}

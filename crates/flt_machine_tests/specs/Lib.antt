@@ -3,3 +3,4 @@ pub mod ConditionExamples
 pub mod DebounceExamples
 pub mod SettingExamples
 pub mod ListExamples
+pub mod FitExamples

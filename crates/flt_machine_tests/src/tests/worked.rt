@@ -4,6 +4,7 @@ ghost use Rattle.flt_machine_tests.specs.StatusExamples.{ConfirmsOncePerCycle, A
 ghost use Rattle.flt_machine_tests.specs.ConditionExamples.{EachConditionCounts, DisabledEventIsEndedAndCleared, CallsOnADisabledEvent};
 ghost use Rattle.flt_machine_tests.specs.DebounceExamples.{TendingFailureQualifiesAgain, TicksLeaveCounters};
 ghost use Rattle.flt_machine_tests.specs.SettingExamples.{OtherRequestsKeepTheHold, EachFormOfASetting};
+ghost use Rattle.flt_machine_tests.specs.FitExamples.{EntriesFit, StatesFit};
 ghost use Rattle.flt_machine_tests.specs.ListExamples.{ListsOfManyDtcs, ValuesOfIdentifiers};
 
 /// Failures of one cycle count once for the confirmation too.
@@ -64,4 +65,14 @@ pub fn lists_of_many_dtcs()
 /// Each active signal is its own bit of data identifier 0105, and each of the others has its signals.
 pub fn values_of_identifiers()
     ensures { ValuesOfIdentifiers }
+{}
+
+/// States of an event that fit a configuration, and others.
+pub fn states_fit_or_not()
+    ensures { StatesFit }
+{}
+
+/// Entries that fit, and others.
+pub fn entries_fit_or_not()
+    ensures { EntriesFit }
 {}

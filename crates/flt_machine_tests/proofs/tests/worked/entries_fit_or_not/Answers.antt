@@ -1,6 +1,6 @@
 use Rattle.std.proofs.Common.{◌≡◌, refl, arith}
-use Rattle.flt_config.specs.FitExamples.{with_frames}
-use Rattle.flt_config.proofs.worked.entries_fit_or_not.Goals as goal
+use Rattle.flt_machine_tests.specs.FitExamples.{with_frames}
+use Rattle.flt_machine_tests.proofs.tests.worked.entries_fit_or_not.Goals as goal
 
 pub returns : goal.returns
 returns c = record {

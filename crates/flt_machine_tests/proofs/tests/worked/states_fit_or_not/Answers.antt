@@ -1,5 +1,5 @@
 use Rattle.std.proofs.Common.{◌≡◌, ◌<◌, refl, arith}
-use Rattle.flt_config.proofs.worked.states_fit_or_not.Goals as goal
+use Rattle.flt_machine_tests.proofs.tests.worked.states_fit_or_not.Goals as goal
 
 pub returns : goal.returns
 returns c = record {
