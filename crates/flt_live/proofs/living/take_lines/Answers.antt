@@ -50,11 +50,11 @@ returns-in-Ok-Ended-clause-all g c =
     let was = c.loop.invariant in
     record {
       taken = λ first found living same. end_ends c.args.config.now first found (driver_of c.args.store.now)
-    (talk (ahead_in (g.S.Source.left c.args.source.now) c.args.ear.now) (g.S.Source.faults c.args.source.now) (g.K.Sink.held c.args.sink.now) (g.K.Sink.faults c.args.sink.now))
-    (talk ahead (g.S.Source.faults c.loop.source) (g.K.Sink.held c.loop.sink) (g.K.Sink.faults c.loop.sink))
-    (talk next_ahead (g.S.Source.faults c.hear.new.source) (g.K.Sink.held c.loop.sink) (g.K.Sink.faults c.loop.sink))
-    (state_of c.loop.unit) c.loop.queue c.loop.store (c.loop.invariant.going first found living same) refl (kept_in c.hear.new.self)
-    (subst (λ (e : Line). TakesLine ahead next_ahead e (kept_in c.hear.new.self)) c.in-Ok-Ended.field-0-is c.in-Ok-Ended.ensures.line);
+          (talk (ahead_in (g.S.Source.left c.args.source.now) c.args.ear.now) (g.S.Source.faults c.args.source.now) (g.K.Sink.held c.args.sink.now) (g.K.Sink.faults c.args.sink.now))
+          (talk ahead (g.S.Source.faults c.loop.source) (g.K.Sink.held c.loop.sink) (g.K.Sink.faults c.loop.sink))
+          (talk next_ahead (g.S.Source.faults c.hear.new.source) (g.K.Sink.held c.loop.sink) (g.K.Sink.faults c.loop.sink))
+          (state_of c.loop.unit) c.loop.queue c.loop.store (c.loop.invariant.going first found living same) refl (kept_in c.hear.new.self)
+          (subst (λ (e : Line). TakesLine ahead next_ahead e (kept_in c.hear.new.self)) c.in-Ok-Ended.field-0-is c.in-Ok-Ended.ensures.line);
       cause = tt;
       cut = tt;
       later = record { read = omega (arith, was.later_read, c.in-Ok-Ended.ensures.cause.later); write = was.later_write };
@@ -65,11 +65,11 @@ returns-in-Err-clause-all g c =
     let was = c.loop.invariant in
     record {
       taken = λ first found living same. unread_ends c.args.config.now first found (driver_of c.args.store.now)
-    (talk (ahead_in (g.S.Source.left c.args.source.now) c.args.ear.now) (g.S.Source.faults c.args.source.now) (g.K.Sink.held c.args.sink.now) (g.K.Sink.faults c.args.sink.now))
-    (talk (ahead_in (g.S.Source.left c.loop.source) c.loop.ear) (g.S.Source.faults c.loop.source) (g.K.Sink.held c.loop.sink) (g.K.Sink.faults c.loop.sink))
-    (talk (ahead_in (g.S.Source.left c.hear.new.source) c.hear.new.self) (g.S.Source.faults c.hear.new.source) (g.K.Sink.held c.loop.sink) (g.K.Sink.faults c.loop.sink))
-    (state_of c.loop.unit) c.loop.queue c.loop.store (c.loop.invariant.going first found living same) refl
-    (rose_later (g.S.Source.faults c.args.source.now) (g.S.Source.faults c.loop.source) (g.S.Source.faults c.hear.new.source) c.loop.invariant.later_read c.in-Err.ensures.cause.failed);
+          (talk (ahead_in (g.S.Source.left c.args.source.now) c.args.ear.now) (g.S.Source.faults c.args.source.now) (g.K.Sink.held c.args.sink.now) (g.K.Sink.faults c.args.sink.now))
+          (talk (ahead_in (g.S.Source.left c.loop.source) c.loop.ear) (g.S.Source.faults c.loop.source) (g.K.Sink.held c.loop.sink) (g.K.Sink.faults c.loop.sink))
+          (talk (ahead_in (g.S.Source.left c.hear.new.source) c.hear.new.self) (g.S.Source.faults c.hear.new.source) (g.K.Sink.held c.loop.sink) (g.K.Sink.faults c.loop.sink))
+          (state_of c.loop.unit) c.loop.queue c.loop.store (c.loop.invariant.going first found living same) refl
+          (rose_later (g.S.Source.faults c.args.source.now) (g.S.Source.faults c.loop.source) (g.S.Source.faults c.hear.new.source) c.loop.invariant.later_read c.in-Err.ensures.cause.failed);
       cause = tt;
       cut = tt;
       later = record { read = omega (arith, was.later_read, c.in-Err.ensures.cause.later); write = was.later_write };
