@@ -34,12 +34,16 @@ use Rattle.flt_live.specs.Lived.{GoesOnBy, IsLifeLived, TakesLines, UnlessLost}
 use Rattle.flt_live.specs.Made.{IsMidway, Made, deeds_made, deeds_of, journal_of}
 use Rattle.flt_live.specs.Session.{SourceFailed}
 use Rattle.flt_live.specs.Shelf.{GivesBack}
-use Rattle.flt_live.specs.Span.{ArePassed, AreSpans, BeginsSo, IsFoundBehind, IsSpan, IsWholeLife, LifeSpan, SameBlocks, WentOn, next_life, seen_as}
+use Rattle.flt_live.specs.Span.{ArePassed, AreSpans, BeginsSo, IsFoundBehind, IsSpan, IsWholeLife, LifeSpan, LivesPassed, SameBlocks, WentOn, next_life, seen_as}
 use Rattle.flt_live.proofs.Seen.{deeds_are, queue_is, told_are}
 
 pub nothing_pulled : (left : Option (List ℕ)) → ahead_with [] left ≡ left
 nothing_pulled None = refl
 nothing_pulled (Some bytes) = refl
+
+-- No life began.
+pub none_passed : (tells : Bool) (c : Config) (now : Talk) → LivesPassed tells c now now
+none_passed tells c now = record { lives = []; pulled = []; passed = ap (λ (ahead : Option (List ℕ)). record now { ahead = ahead }) (nothing_pulled now.ahead) }
 
 -- ---- a life that was started is one of a run
 

@@ -7,6 +7,7 @@ use Rattle.flt_config.specs.declared.config.DidUse.{DidUse}
 use Rattle.flt_file.specs.declared.opening.OpenFault.{OpenFault}
 use Rattle.flt_file.specs.declared.opening.OpenFault.TheVariants as shelves
 use Rattle.flt_io.specs.Fault.{Rose}
+use Rattle.flt_io.specs.Sink.{AppendsFront}
 use Rattle.flt_io.specs.declared.stream.StreamFault.{StreamFault}
 use Rattle.flt_io.specs.declared.stream.StreamFault.TheVariants as streams
 use Rattle.flt_script.specs.Fault.{script_fault_line, unread_line}
@@ -17,10 +18,12 @@ use Rattle.flt_step.specs.declared.step.Step.{Step}
 use Rattle.flt_step.specs.Part.{PartOf}
 use Rattle.flt_life_model.specs.declared.life.Boot.{Boot}
 use Rattle.flt_life_model.specs.Statuses.{status_by}
+use Rattle.flt_live.specs.declared.living.LifeEnd.{LifeEnd}
 use Rattle.flt_live.specs.declared.living.LifeEnd.TheVariants as lives
 use Rattle.flt_live.specs.declared.session.End.{End}
 use Rattle.flt_live.specs.declared.session.End.TheVariants as ends
 use Rattle.flt_live.specs.Heard.{Talk}
+use Rattle.flt_live.specs.Lived.{IfLost}
 use Rattle.flt_live.specs.Span.{AreSpans, LivesPassed}
 
 -- The bytes of the configuration that are left, before and after it was read, and how often its source failed.
@@ -93,8 +96,20 @@ IsEndOf tells script before after Unread = IsIdle script.lives × SourceFailed t
 IsEndOf tells script before after (Ended boot) = IsIdle script.lives × AreSpans tells script.config before after boot lives.Ended
 
 -- Memory ran out, or the sink failed.
-abbrev pub IsCutOff : (before after : Talk) → ℕ → Type 0
-IsCutOff before after status = (status ≡ 7) ⊎ ((status ≡ 4) × Rose before.write_faults after.write_faults)
+abbrev pub IsLostBy : (before after : Talk) → ℕ → Type 0
+IsLostBy before after status = (status ≡ 7) ⊎ ((status ≡ 4) × Rose before.write_faults after.write_faults)
+
+-- The last of these lives was cut short: those before it are whole, and a front of its lines was written.
+pub record IsCutInALife (tells : Bool) (c : Config) (before after : Talk) : Type 0 where
+  pub boot : Boot
+  pub end : LifeEnd
+  pub lost : IfLost end (Unit {0})
+  pub lived : AreSpans tells c before after boot end
+
+-- What was written in a session that was cut off: lives; or a front of the line that refuses a script that does something.
+abbrev pub IsCutBy : Bool → ScriptContent → (before after : Talk) → Type 0
+IsCutBy tells script before after =
+    IsCutInALife tells script.config before after ⊎ IsClosed tells script.config before after ⊎ AppendsFront before.held after.held other_script_line
 
 -- An end of this cause, with its status; or the session was cut off.
 pub record IsEnded (Cause : SessionEnd → Type 0) (status : ℕ) : Type 0 where
@@ -102,8 +117,8 @@ pub record IsEnded (Cause : SessionEnd → Type 0) (status : ℕ) : Type 0 where
   pub cause : Cause end
   pub status_is : status ≡ status_due end
 
-abbrev pub EndsFor : (SessionEnd → Type 0) → (before after : Talk) → ℕ → Type 0
-EndsFor Cause before after status = IsEnded Cause status ⊎ IsCutOff before after status
+abbrev pub EndsFor : (SessionEnd → Type 0) → Type 0 → (before after : Talk) → ℕ → Type 0
+EndsFor Cause Cut before after status = IsEnded Cause status ⊎ (IsLostBy before after status × Cut)
 
 -- The bytes of the configuration are a script, of which this holds.
 abbrev pub IfScript : List DidUse → Reading → (ScriptContent → Type 0) → Type 0
@@ -119,15 +134,23 @@ HasCause tells dids config before after (Closed fault) = IfScript dids config (�
 HasCause tells dids config before after Unread = IfScript dids config (λ script. IsEndOf tells script before after Unread)
 HasCause tells dids config before after (Ended boot) = IfScript dids config (λ script. IsEndOf tells script before after (Ended boot))
 
+-- What was written in a session that was cut off: a front of the line that says why no life began, or what is written with a script.
+abbrev pub IsCutWith : Bool → List DidUse → Reading → (before after : Talk) → Type 0
+IsCutWith tells dids config before after =
+    AppendsFront before.held after.held unread_line
+    ⊎ ((fault : ScriptFault) × AppendsFront before.held after.held (script_fault_line fault))
+    ⊎ IfScript dids config (λ script. IsCutBy tells script before after)
+
 -- A session by its configuration.
 abbrev pub IsSession : Bool → List DidUse → Reading → (before after : Talk) → ℕ → Type 0
-IsSession tells dids config before after status = EndsFor (HasCause tells dids config before after) before after status
+IsSession tells dids config before after status =
+    EndsFor (HasCause tells dids config before after) (IsCutWith tells dids config before after) before after status
 
 -- Why lives ended for something else than the end of the source.
 abbrev pub HasFailed : Bool → Config → (before after : Talk) → End → Type 0
 HasFailed tells c before after ends.Unread = SourceFailed tells c before after
-HasFailed tells c before after ends.Unwritten = Rose before.write_faults after.write_faults
-HasFailed tells c before after ends.Memory = Unit {0}
+HasFailed tells c before after ends.Unwritten = Rose before.write_faults after.write_faults × IsCutInALife tells c before after
+HasFailed tells c before after ends.Memory = IsCutInALife tells c before after ⊎ LivesPassed tells c before after
 HasFailed tells c before after (ends.Shelf fault) = LivesPassed tells c before after × (before.write_faults ≤ after.write_faults)
 
 -- The status where a line was written or not.

@@ -18,7 +18,7 @@ ghost use Rattle.flt_life_model.specs.Statuses.{status_by};
 ghost use Rattle.flt_live.specs.Heard.{talk};
 ghost use Rattle.flt_live.specs.Span.{AreSpans};
 ghost use Rattle.flt_live.specs.declared.living.LifeEnd.TheVariants.{Ended};
-ghost use Rattle.flt_live.specs.Session.{EndsFor, HasFailed, IsEndOf, IsIdle, IsSession, reading, status_of_shelf};
+ghost use Rattle.flt_live.specs.Session.{EndsFor, HasFailed, IsCutBy, IsEndOf, IsIdle, IsSession, reading, status_of_shelf};
 
 use crate::ear::Ear;
 use crate::living::{LifeEnd, Room, live};
@@ -152,8 +152,9 @@ fn status_of_shelf(fault: &OpenFault) -> Status
 
 /// Pushes why a shelf did not give its flash.
 fn tell_shelf<K: Sink>(alloc: Global, fault: &OpenFault, sink: &mut K) -> Status
-    ensures { ((number_of result ≡ status_of_shelf fault.now) × ((text : List ℕ) × Appends (K.held sink.old) (K.held sink.new) text))
+    ensures status { (number_of result ≡ status_of_shelf fault.now)
         ⊎ ((number_of result ≡ 7) ⊎ ((number_of result ≡ 4) × Rose (K.faults sink.old) (K.faults sink.new))) }
+    ensures written { (text : List ℕ) × Appends (K.held sink.old) (K.held sink.new) text }
 {
     let Ok(line) = format!(in alloc; "image refused: {fault}\n") else {
         return Status::OutOfMemory;
@@ -187,7 +188,7 @@ fn live_by<R: Wait, S: Source, K: Sink, B: Bench + Drop, H: Shelf<B>>(
     requires served { Serves (dids_of dids) script.now.config.events.items }
     ensures { let before = talk (S.left source.old) (S.faults source.old) (K.held sink.old) (K.faults sink.old) in
         let after = talk (S.left source.new) (S.faults source.new) (K.held sink.new) (K.faults sink.new) in
-        EndsFor (IsEndOf H.tells (content script.now) before after) before after (number_of result) }
+        EndsFor (IsEndOf H.tells (content script.now) before after) (IsCutBy H.tells (content script.now) before after) before after (number_of result) }
 {
     if !is_idle(&script.lives) {
         return match sink.push(b"script other\n") {

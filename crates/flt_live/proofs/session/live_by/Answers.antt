@@ -1,11 +1,11 @@
-use Rattle.std.proofs.Common.{◌∙◌, List, inl, refl, sym, subst, rules, Global}
+use Rattle.std.proofs.Common.{◌∙◌, List, inl, inr, refl, sym, subst, rules, Global}
 use Rattle.std.specs.Prelude.{IsTrue, Vec}
 use Rattle.flt_step.specs.declared.step.Part.{Part}
 use Rattle.flt_life_model.specs.Lives.{lists}
 use Rattle.flt_script.specs.Script.{content}
 use Rattle.flt_live.specs.Heard.{talk}
 use Rattle.flt_live.specs.Session.{HasFailed, IsIdle, Ended, Unread}
-use Rattle.flt_live.proofs.Closings.{shelf_ends}
+use Rattle.flt_live.proofs.Closings.{cut_for_memory, shelf_ends}
 use Rattle.flt_live.proofs.session.live_by.Goals as goal
 
 pub returns-in-Ok-live_on : goal.returns-in-Ok-live_on
@@ -32,4 +32,18 @@ returns-in-Err-Shelf g c =
     let between = talk (g.S.Source.left c.live_on.new.source) (g.S.Source.faults c.live_on.new.source) (g.K.Sink.held c.live_on.new.sink) (g.K.Sink.faults c.live_on.new.sink) in
     let after = talk (g.S.Source.left c.live_on.new.source) (g.S.Source.faults c.live_on.new.source) (g.K.Sink.held c.tell_shelf.new.sink) (g.K.Sink.faults c.tell_shelf.new.sink) in
     let failed = subst (HasFailed g.H.Shelf.tells c.args.script.now.config before between) c.in-Err-Shelf.field-0-is c.in-Err-Shelf.ensures.failed in
-    shelf_ends g.H.Shelf.tells (content c.args.script.now) c.in-Err-Shelf.fault before between after _ idle failed.0 refl failed.1 c.tell_shelf.ensures
+    shelf_ends g.H.Shelf.tells (content c.args.script.now) c.in-Err-Shelf.fault before between after _ idle failed.0 refl failed.1 c.tell_shelf.ensures.written c.tell_shelf.ensures.status
+
+pub returns-in-Err-Unwritten : goal.returns-in-Err-Unwritten
+returns-in-Err-Unwritten g c =
+    let before = talk (g.S.Source.left c.args.source.now) (g.S.Source.faults c.args.source.now) (g.K.Sink.held c.args.sink.now) (g.K.Sink.faults c.args.sink.now) in
+    let after = talk (g.S.Source.left c.live_on.new.source) (g.S.Source.faults c.live_on.new.source) (g.K.Sink.held c.live_on.new.sink) (g.K.Sink.faults c.live_on.new.sink) in
+    let failed = subst (HasFailed g.H.Shelf.tells c.args.script.now.config before after) c.in-Err-Unwritten.field-0-is c.in-Err-Unwritten.ensures.failed in
+    inr (inr (refl, failed.0), inl failed.1)
+
+pub returns-in-Err-Memory : goal.returns-in-Err-Memory
+returns-in-Err-Memory g c =
+    let before = talk (g.S.Source.left c.args.source.now) (g.S.Source.faults c.args.source.now) (g.K.Sink.held c.args.sink.now) (g.K.Sink.faults c.args.sink.now) in
+    let after = talk (g.S.Source.left c.live_on.new.source) (g.S.Source.faults c.live_on.new.source) (g.K.Sink.held c.live_on.new.sink) (g.K.Sink.faults c.live_on.new.sink) in
+    let failed = subst (HasFailed g.H.Shelf.tells c.args.script.now.config before after) c.in-Err-Memory.field-0-is c.in-Err-Memory.ensures.failed in
+    inr (inl refl, cut_for_memory g.H.Shelf.tells (content c.args.script.now) before after failed)
