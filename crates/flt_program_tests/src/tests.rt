@@ -8,3 +8,4 @@ mod program;
 mod reports;
 mod streams;
 mod watches;
+mod worked;
