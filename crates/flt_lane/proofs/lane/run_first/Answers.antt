@@ -1,3 +1,4 @@
+use Rattle.std.proofs.Common.{arith}
 use denote.Exit
 use denote.Param.Send.{sendable, param_sync, arg_sync}
 use denote.Param.Table.{FnAny}
@@ -13,3 +14,10 @@ work_first-requires-sync-C g c κs within =
     let F = FnAny (stored.sig g.row.R g.row.G g.row.B) g.fn-1 in
     param_sync 1 (lts.arg-0-1 g.row.R g.row.G g.row.B g.R.laws g.G.laws g.B.laws g.R.Threads g.R.Threads-dict g.R.Wait g.R.Wait-dict g.G.Gate g.G.Gate-dict g.B.Blocks g.B.Blocks-dict g.B.Destruct-dict g.fn-1 g.fn-1-has κs)
     (arg_sync _ Exit.no (locks.the_row F (of_code g.fn-1)) (locks_sync F (of_code g.fn-1) (search sendable)))
+
+pub returns-clause-ran : goal.returns-clause-ran
+returns-clause-ran g c = record {
+    len = c.work_first.auto.works;
+    one = λ d. (c.work_first.ensures.made d).0;
+    others = λ k d within other. (c.work_first.ensures.done k d (omega (arith, other)) within).0;
+}
