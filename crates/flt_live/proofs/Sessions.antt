@@ -1,12 +1,13 @@
 -- Lives that go on from what those before them left.
-use Rattle.std.proofs.Common.{◌∙◌, List, [], ◌∷◌, ℕ, Option, None, true, refl, sym, subst, arith}
+use Rattle.std.proofs.Common.{◌≡◌, ◌∙◌, List, [], ◌∷◌, ℕ, Option, None, true, refl, sym, subst, ap, arith}
 use Rattle.flt_config.specs.declared.config.Config.{Config}
 use Rattle.flt_flash.specs.Blocks.{BlocksState}
 use Rattle.flt_flash.specs.Content.{Content}
 use Rattle.flt_store_model.specs.Holding.{Generation, IsSound}
 use Rattle.flt_store_model.specs.Laws.{IsGiven}
 use Rattle.flt_store_model.proofs.ImageLaws.{held_stands, spare_stands}
-use Rattle.flt_life_model.specs.Laws.{BeginsNoOlder, IsNoOlder, IsSoundIn, acknowledged_in, last_acknowledged}
+use Rattle.flt_life_model.specs.Chain.{LifeView}
+use Rattle.flt_life_model.specs.Laws.{BeginsNoOlder, IsNoOlder, IsSoundIn, acknowledged_in, generation_of_life, last_acknowledged, number_in}
 use Rattle.flt_life_model.specs.Moment.{moment_of}
 use Rattle.flt_life_model.specs.declared.life.Boot.{Boot}
 use Rattle.flt_life_model.specs.declared.life.Boot.TheVariants as boots
@@ -15,7 +16,13 @@ use Rattle.flt_live.specs.declared.living.LifeEnd.{LifeEnd}
 use Rattle.flt_live.specs.Heard.{Talk}
 use Rattle.flt_live.specs.Laws.{EachGoesOn, FirstFindsSound, views_in}
 use Rattle.flt_live.specs.Lived.{UnlessLost}
-use Rattle.flt_live.specs.Span.{ArePassed, AreSpans, BeginsSo, IsFoundBehind, IsSpan, IsWholeLife, LifeSpan, SameBlocks}
+use Rattle.flt_live.specs.Span.{ArePassed, AreSpans, BeginsSo, IsFoundBehind, IsSpan, IsWholeLife, LifeSpan, SameBlocks, WentOn}
+
+-- The words of a run name the start that the life had.
+boot_of_view : (c : Config) (boot : Boot) (view : LifeView) (from after : Talk) (end : LifeEnd) → WentOn c boot view from after end → view.boot ≡ boot
+boot_of_view c (boots.Started number state) view from after end went = ap (λ (v : LifeView). v.boot) went.view_is
+boot_of_view c boots.Dark view from after end went = ap (λ (v : LifeView). v.boot) went.0
+boot_of_view c (boots.Refused fault) view from after end went = ap (λ (v : LifeView). v.boot) went.0
 
 module _ (c : Config) (given : IsGiven c) where
   -- The same of blocks that are the same.
@@ -50,7 +57,9 @@ module _ (c : Config) (given : IsGiven c) where
       let number = acknowledged_in (views_in earlier) in
       let known = last_acknowledged c (views_in earlier) in
       let left = leaves_no_older c given held_stands spare_stands number known (moment_of last.before) last.begun.device.faults so_far.0 (moment_of last.last) last.view last.boot whole.is_life in
-      let is = same_older (acknowledged_in (views_in (last ∷ earlier))) (last_acknowledged c (views_in (last ∷ earlier))) last.last life.before (found refl) ? in
+      let named = boot_of_view c last.boot last.view whole.between last.after _ whole.went_on in
+      let seen = subst (λ (b : Boot). IsNoOlder c (number_in last.view.journal number) (generation_of_life c b last.view.journal known) (moment_of last.last)) (sym named) left in
+      let is = same_older (acknowledged_in (views_in (last ∷ earlier))) (last_acknowledged c (views_in (last ∷ earlier))) last.last life.before (found refl) seen in
       (is, begins_on _ _ life.before life.begun life.boot is span.is, so_far)
 
 pub keep : (c : Config) → IsGiven c → (from to : Talk) (boot : Boot) (end : LifeEnd) (lives : AreSpans true c from to boot end) → FirstFindsSound c (lives.life ∷ lives.earlier) → EachGoesOn c (lives.life ∷ lives.earlier)
