@@ -17,7 +17,7 @@ work_first-requires-sync-C g c κs within =
 
 pub returns-clause-ran : goal.returns-clause-ran
 returns-clause-ran g c = record {
-    len = c.work_first.auto.works;
-    one = λ d. (c.work_first.ensures.made d).0;
-    others = λ k d within other. (c.work_first.ensures.done k d (omega (arith, other)) within).0;
+  len = c.work_first.auto.works;
+  one = λ d. (c.work_first.ensures.made d).0;
+  others = λ k d within other. (c.work_first.ensures.done k d (omega (arith, other)) within).0;
 }
