@@ -5,7 +5,7 @@
 #include "flash.h"
 
 static const char text[] =
-    "memory 4\nblocks 2\nflash 2 64\nevent 0 dtc 123456 cycle 0\nevent 1 dtc 123457 cycle 0\n";
+    "memory 2\nblocks 2\nflash 2 64\nevent 0 dtc 123456 cycle 0\nevent 1 dtc 123457 cycle 0\n";
 
 /* The saves of a life; enough that the sectors switch. */
 #define SAVES 12

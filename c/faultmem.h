@@ -3,6 +3,7 @@
  *
  * Threads: a handle belongs to the thread that opened it. Two handles share nothing, so each may have a thread of its own.
  * Numbers: ticks are of 10 ms; all others are those of docs/SCRIPT.md, with the same ranges.
+ * Lines: those of docs/SCRIPT.md#the-report, each with its line feed.
  * Statuses: after each status but FAULTMEM_OK, FAULTMEM_TEXT and those that a call names below, nothing has changed.
  *
  * The flash is the caller's: two sectors of P pages of 32 bytes, page behind page, sector 0 first, for `flash 2 P`. The fault memory has

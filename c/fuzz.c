@@ -31,7 +31,7 @@ static const char *const texts[] = {
     "config 7\nevent 0 dtc 00FF00 time 20 30\nblocks 3\nmemory 2\nflash 2 64\n",
     "flash 2 64\nevent 0 dtc zz\n",
     "flash 2 64\nevent 0 dtc 123456\nfail 0\n",
-    "",
+    "flash 2 64\nmemory 1\nblocks 3\n",
 };
 
 static size_t counts[12];

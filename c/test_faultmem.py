@@ -16,7 +16,9 @@ from live_session import random_config, random_step, report_of  # noqa: E402
 
 LIBRARY = os.environ.get("FAULTMEM_LIBRARY", "")
 RUN = Path(os.environ.get("FAULTMEM_RUN", "none"))
-TEXT = "event 0 dtc 123456\nblocks 2\nflash 2 64\n"
+TEXT = "event 0 dtc 123456\nmemory 2\nblocks 2\nflash 2 64\n"
+CONFIGURATION = {"config", "memory", "blocks", "flash", "event", "did"}
+STEPS = set("pass fail prepass prefail sig enable tick cycle show ask get save drain post urge t power".split())
 
 
 @unittest.skipUnless(LIBRARY, "FAULTMEM_LIBRARY names no library")
@@ -86,6 +88,26 @@ class Calls(unittest.TestCase):
             self.assertTrue(memory.begins.startswith("life 1 refused"), memory.begins)
             self.status("dark", memory.show, 0)
             self.assertEqual(memory.power_up(bytearray(b"\xff" * 4096)), "life 2 generation 0")
+
+    def test_examples(self) -> None:
+        """The example scripts that a library can make give their reports."""
+        folder = Path(__file__).resolve().parent.parent / "crates" / "examples" / "data"
+        made = 0
+        for path in sorted(folder.glob("*.script")):
+            text = path.read_text(encoding="ascii", errors="replace").splitlines()
+            lines = [line for line in text if line.split() and not line.lstrip().startswith("#")]
+            config = [line for line in lines if line.split()[0] in CONFIGURATION]
+            steps = lines[len(config) :]
+            report = path.with_suffix(".report").read_text(encoding="ascii").splitlines()
+            if lines[: len(config)] != config or not all(line.split()[0] in STEPS for line in steps):
+                continue
+            if not report or report[0] != "life 1 generation 0":
+                continue
+            with Memory(Path(LIBRARY), "".join(f"{line}\n" for line in config)) as memory:
+                answers = [memory.begins] + [memory.make(line) for line in steps]
+            self.assertEqual(report, answers, path.name)
+            made += 1
+        self.assertGreater(made, 20)
 
     @unittest.skipUnless(RUN.exists(), "FAULTMEM_RUN names no program")
     def test_scripts(self) -> None:

@@ -6,15 +6,16 @@
 
 mod inner;
 mod slot;
+mod steps;
 
 use arrayvec::ArrayVec;
 use flt_did::{DID_ROWS, DidTable, program_table};
 use flt_embed::{Fault, Memory, Operation, Stage, read_config};
-use flt_model::Report;
 use flt_step::Step;
 use inner::Inner;
 pub use slot::{Handle, Slot};
 use std::alloc::Global;
+use steps::{small, step_of};
 
 /// The status of a call that was made.
 const OK: i32 = 0;
@@ -88,62 +89,6 @@ fn copy_front(bytes: &[u8], out: &mut [u8]) -> usize {
     let count = bytes.len().min(out.len());
     out[..count].copy_from_slice(&bytes[..count]);
     count
-}
-
-/// The number, if it is below 256.
-fn small(number: u32) -> Option<u8> {
-    u8::try_from(number).ok()
-}
-
-/// The report of this number.
-fn report_of(number: u32) -> Option<Report> {
-    match number {
-        0 => Some(Report::Passed),
-        1 => Some(Report::Failed),
-        2 => Some(Report::PrePassed),
-        3 => Some(Report::PreFailed),
-        _ => None,
-    }
-}
-
-/// The step that a call without bytes makes: its kind, and two numbers.
-fn step_of(kind: u32, first: u32, second: u32) -> Option<Step> {
-    match kind {
-        0 => Some(Step::Report {
-            event: u16::try_from(first).ok()?,
-            report: report_of(second)?,
-        }),
-        1 => Some(Step::Tick {
-            ticks: u16::try_from(first).ok().filter(|ticks| *ticks != 0)?,
-        }),
-        2 => Some(Step::Cycle {
-            cycle: small(first)?,
-        }),
-        3 => Some(Step::Signal {
-            index: small(first)?,
-            value: u16::try_from(second).ok()?,
-        }),
-        4 => Some(Step::Enable {
-            condition: small(first)?,
-            fulfilled: match second {
-                0 => false,
-                1 => true,
-                _ => return None,
-            },
-        }),
-        5 => Some(Step::Show {
-            event: u16::try_from(first).ok()?,
-        }),
-        6 => Some(Step::Save),
-        7 => Some(Step::Drain),
-        8 => Some(Step::Get {
-            block: small(first)?,
-        }),
-        9 => Some(Step::Ask {
-            block: small(first)?,
-        }),
-        _ => None,
-    }
 }
 
 /// Opens a fault memory. 0: `out` has its handle.
@@ -248,11 +193,15 @@ pub extern "C" fn flt_c_post(
             if given.is_empty() {
                 LENGTH
             } else {
-                make(alloc, &mut inner.memory, Step::Post {
-                    urgent,
-                    block,
-                    bytes,
-                })
+                make(
+                    alloc,
+                    &mut inner.memory,
+                    Step::Post {
+                        urgent,
+                        block,
+                        bytes,
+                    },
+                )
             }
         }
     };
@@ -376,11 +325,13 @@ pub extern "C" fn flt_c_operation(
     let inner = slot.into_box();
     let status = match inner.memory.operations().get(number) {
         None => RANGE,
-        Some(Operation::Program {
-            sector,
-            page,
-            bytes,
-        }) => {
+        Some(
+            Operation::Program {
+                sector,
+                page,
+                bytes,
+            },
+        ) => {
             carried.kind = 1;
             carried.sector = *sector;
             carried.page = *page;

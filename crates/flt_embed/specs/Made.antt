@@ -16,23 +16,23 @@ use Rattle.flt_embed.specs.declared.fault.Fault.TheVariants.{Flash, Text}
 use Rattle.flt_embed.specs.declared.memory.Memory.{Memory}
 
 -- A fault with which a call changes nothing.
-abbrev pub IsRefusal : Fault → Type 0
-IsRefusal Flash = ⊥
-IsRefusal Text = ⊥
-IsRefusal _ = Unit {0}
+abbrev pub ChangesNothing : Fault → Type 0
+ChangesNothing Flash = ⊥
+ChangesNothing Text = ⊥
+ChangesNothing _ = Unit {0}
 
 -- The machine took a call, and this is its answer.
-abbrev pub IsReply : Op → UnitView → Told → Type 0
-IsReply op unit (answers.Dem told) = Answers op unit told.reply
-IsReply op unit _ = ⊥
+abbrev pub IsOfMachine : Op → UnitView → Told → Type 0
+IsOfMachine op unit (answers.Dem told) = Answers op unit told.reply
+IsOfMachine op unit _ = ⊥
 
 -- The queue took a call, and this is its answer.
-abbrev pub IsQueueReply : History → QueueOp → Told → Type 0
-IsQueueReply jobs op (answers.Queue told) = told.reply ≡ answer_q jobs op
-IsQueueReply jobs op _ = ⊥
+abbrev pub IsOfQueue : History → QueueOp → Told → Type 0
+IsOfQueue jobs op (answers.Queue told) = told.reply ≡ answer_q jobs op
+IsOfQueue jobs op _ = ⊥
 
 abbrev pub QueueTakes : ℕ → QueueOp → JobQueue → JobQueue → Told → Type 0
-QueueTakes blocks op before after told = (jobs : History) → Stands blocks jobs before → Stands blocks (op ∷ jobs) after × IsQueueReply jobs op told
+QueueTakes blocks op before after told = (jobs : History) → Stands blocks jobs before → Stands blocks (op ∷ jobs) after × IsOfQueue jobs op told
 
 -- The operations that are handed out, carried out in order on the image before, give the image after.
 abbrev pub HandsOut : Memory → Memory → Type 0
@@ -46,7 +46,7 @@ IsSaved _ after = ⊥
 
 -- What a step came to, by what it does.
 abbrev pub IsMade : Action → Told → Memory → Memory → Type 0
-IsMade (actions.Call op) told before after = Takes op before.unit after.unit × IsReply op before.unit told
+IsMade (actions.Call op) told before after = Takes op before.unit after.unit × IsOfMachine op before.unit told
 IsMade (actions.Queue op) told before after = (after.unit ≡ before.unit) × QueueTakes before.config.blocks op before.queue after.queue told
 IsMade actions.Save told before after = IsSaved told after
 IsMade actions.Drain told before after = after.unit ≡ before.unit

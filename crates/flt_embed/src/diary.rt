@@ -33,7 +33,9 @@ impl Diary {
         ensures { result.0.items ≡ bytes_of self }
     {
         let Diary {
-            bytes, operations, ..
+            bytes,
+            operations,
+            ..
         } = self;
         (bytes, operations)
     }

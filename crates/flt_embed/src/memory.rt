@@ -13,8 +13,8 @@ ghost use Rattle.flt_report.specs.Answer.{step_line};
 ghost use Rattle.flt_embed.specs.declared.fault.Fault.TheVariants.{Text};
 ghost use Rattle.flt_restore.specs.declared.fault.StartFault.TheVariants.{Flash};
 
-use crate::operation::Operation;
 use crate::fault::Fault;
+use crate::operation::Operation;
 use crate::storing::{Begun, Settled, copy_of, drain_on, get_on, put_on, restart, save_on, start};
 use flt_config::{ValidConfig, fits};
 use flt_dcm::{ReplyKind, Unit, UnitState};
@@ -93,7 +93,7 @@ fn serves(dids: &DidTable<DID_ROWS>, config: &ValidConfig) -> bool
 }
 
 impl Memory {
-    ghost use Rattle.flt_embed.specs.Made.{HandsOut, IsMade, IsQueueReply, IsRefusal, IsReply, IsSaved, QueueTakes};
+    ghost use Rattle.flt_embed.specs.Made.{HandsOut, IsMade, IsOfQueue, ChangesNothing, IsOfMachine, IsSaved, QueueTakes};
 
     /// Makes the power come, over the given image, or over a blank one. The bytes of an image are those of its two sectors, page behind
     /// page, sector 0 first. The table has each data identifier of the configuration.
@@ -250,7 +250,7 @@ impl Memory {
     /// Says that all operations were carried out.
     pub fn done(&mut self) -> Result<(), Fault>
         ensures image { self.new.image ≡ self.old.image }
-        ensures refused { IfErr result (λ fault. IsRefusal fault → self.new ≡ self.old) }
+        ensures refused { IfErr result (λ fault. ChangesNothing fault → self.new ≡ self.old) }
     {
         if self.stage != Stage::Pending {
             return Err(Fault::Nothing);
@@ -263,7 +263,7 @@ impl Memory {
     /// Says that an operation failed, and what the flash holds now. It does not run any more until the power comes.
     pub fn failed(&mut self, alloc: Global, image: &[u8]) -> Result<(), Fault>
         ensures image { OnOk result (self.new.image.items ≡ image.now) }
-        ensures refused { IfErr result (λ fault. IsRefusal fault → self.new ≡ self.old) }
+        ensures refused { IfErr result (λ fault. ChangesNothing fault → self.new ≡ self.old) }
     {
         if self.stage != Stage::Pending {
             return Err(Fault::Nothing);
@@ -281,14 +281,19 @@ impl Memory {
         requires served { Serves (dids_of dids.now) self.old.config.events.items }
         requires admitted { IsAdmitted self.old.config op.now }
         ensures takes { Takes op.now self.old.unit self.new.unit }
-        ensures answers { IsReply op.now self.old.unit (told_with self.new.buffers.response.items result) }
+        ensures answers { IsOfMachine op.now self.old.unit (told_with self.new.buffers.response.items result) }
         ensures queue { self.new.queue ≡ self.old.queue }
         ensures image { self.new.image ≡ self.old.image }
         ensures operations { self.new.operations ≡ self.old.operations }
         ensures generation { self.new.generation ≡ self.old.generation }
         ensures config { self.new.config ≡ self.old.config }
     {
-        let reply = self.unit.apply_into(dids, op, &mut self.buffers.state, &mut self.buffers.response);
+        let reply = self.unit.apply_into(
+            dids,
+            op,
+            &mut self.buffers.state,
+            &mut self.buffers.response,
+        );
         StepAnswer::Dem(Answer { place: 0, reply })
     }
 
@@ -306,12 +311,16 @@ impl Memory {
     }
 
     /// Saves the durable state.
-    fn save(&mut self, alloc: Global, dids: &DidTable<DID_ROWS>) -> Result<StepAnswer<ReplyKind>, Fault>
+    fn save(
+        &mut self,
+        alloc: Global,
+        dids: &DidTable<DID_ROWS>,
+    ) -> Result<StepAnswer<ReplyKind>, Fault>
         requires { Serves (dids_of dids.now) self.old.config.events.items }
         ensures saved { IfOk result (λ answer. IsSaved (told_with self.new.buffers.response.items answer) self.new) }
         ensures carried { OnOk result (HandsOut self.old self.new) }
         ensures config { self.new.config ≡ self.old.config }
-        ensures refused { IfErr result (λ fault. IsRefusal fault → self.new ≡ self.old) }
+        ensures refused { IfErr result (λ fault. ChangesNothing fault → self.new ≡ self.old) }
     {
         let mounted = start(alloc, &self.config, &self.image)?;
         self.unit.apply_into(
@@ -342,7 +351,7 @@ impl Memory {
         ensures queue { self.new.queue ≡ self.old.queue }
         ensures carried { OnOk result (HandsOut self.old self.new) }
         ensures config { self.new.config ≡ self.old.config }
-        ensures refused { IfErr result (λ fault. IsRefusal fault → self.new ≡ self.old) }
+        ensures refused { IfErr result (λ fault. ChangesNothing fault → self.new ≡ self.old) }
     {
         let mounted = start(alloc, &self.config, &self.image)?;
         let (settled, answer) = get_on(mounted, &self.config, block)?;
@@ -355,7 +364,7 @@ impl Memory {
         ensures unit { self.new.unit ≡ self.old.unit }
         ensures carried { OnOk result (HandsOut self.old self.new) }
         ensures config { self.new.config ≡ self.old.config }
-        ensures refused { IfErr result (λ fault. IsRefusal fault → self.new ≡ self.old) }
+        ensures refused { IfErr result (λ fault. ChangesNothing fault → self.new ≡ self.old) }
     {
         let mounted = start(alloc, &self.config, &self.image)?;
         let (settled, answer) = drain_on(mounted, &self.config, &mut self.queue)?;
@@ -364,10 +373,15 @@ impl Memory {
     }
 
     /// Makes a step.
-    pub fn make(&mut self, alloc: Global, dids: &DidTable<DID_ROWS>, step: Step) -> Result<(), Fault>
+    pub fn make(
+        &mut self,
+        alloc: Global,
+        dids: &DidTable<DID_ROWS>,
+        step: Step,
+    ) -> Result<(), Fault>
         ensures made { OnOk result ((told : Told) × (self.new.line.items ≡ step_line step told) × IsMade (action_of step) told self.old self.new) }
         ensures carried { OnOk result (HandsOut self.old self.new) }
-        ensures refused { IfErr result (λ fault. IsRefusal fault → self.new ≡ self.old) }
+        ensures refused { IfErr result (λ fault. ChangesNothing fault → self.new ≡ self.old) }
     {
         match self.stage {
             Stage::Up => {}
@@ -405,7 +419,7 @@ impl Memory {
     /// done to the flash is told all the same.
     pub fn put(&mut self, alloc: Global, block: u8, bytes: &[u8]) -> Result<(), Fault>
         ensures carried { OnOk result (HandsOut self.old self.new) }
-        ensures refused { IfErr result (λ fault. IsRefusal fault → self.new ≡ self.old) }
+        ensures refused { IfErr result (λ fault. ChangesNothing fault → self.new ≡ self.old) }
     {
         match self.stage {
             Stage::Up => {}
@@ -442,6 +456,12 @@ impl Memory {
         self.replies.responses.clear();
         self.line.clear();
         self.replies.keep(answer, self.buffers.response.as_slice());
-        put_step(step, &self.replies.answers[0], &self.replies.responses, &mut self.line).map_err(|_| Fault::Text)
+        put_step(
+            step,
+            &self.replies.answers[0],
+            &self.replies.responses,
+            &mut self.line,
+        )
+        .map_err(|_| Fault::Text)
     }
 }

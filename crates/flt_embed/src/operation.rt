@@ -12,7 +12,9 @@ pub enum Operation {
         bytes: [u8; 32],
     },
     /// Erase this sector: make each of its bytes 255.
-    Erase { sector: u8 },
+    Erase {
+        sector: u8,
+    },
 }
 
 /// Puts these bytes over those that stand from a place on, where they fit.

@@ -12,8 +12,8 @@ use crate::diary::Diary;
 use crate::fault::Fault;
 use crate::operation::{Operation, carry_out};
 use arrayvec::ArrayVec;
-use flt_dcm::ReplyKind;
 use flt_config::{Persist, ValidConfig, initial};
+use flt_dcm::ReplyKind;
 use flt_fee::Fee;
 use flt_file::FlashFile;
 use flt_flash::Blocks;
@@ -98,11 +98,7 @@ pub(crate) fn begin<D: Blocks + Drop>(
 }
 
 /// A store over a copy of the image that runs.
-pub(crate) fn start(
-    alloc: Global,
-    config: &ValidConfig,
-    image: &[u8],
-) -> Result<Mounted, Fault>
+pub(crate) fn start(alloc: Global, config: &ValidConfig, image: &[u8]) -> Result<Mounted, Fault>
     requires size { length image.now ≡ 64 * config.now.pages }
     ensures alive { IfOk result (λ mounted. (held : Generation) × IsRunning config.now held held mounted.store) }
     ensures image { IfOk result (λ mounted. mounted.image.items ≡ image.now) }

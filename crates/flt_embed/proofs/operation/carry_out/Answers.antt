@@ -12,7 +12,7 @@ loop-operation-preserved c =
     let image = c.loop-operation.image.items in
     record {
       carried = ap (carried pages (drop (at + 1) all)) c.carry.ensures.carried
-      ∙ sym (at_drop_more (λ (left : List Operation). carried pages left image) all at _ c.loop-operation-test.true) ∙ c.loop-operation.invariant.carried;
+          ∙ sym (at_drop_more (λ (left : List Operation). carried pages left image) all at _ c.loop-operation-test.true) ∙ c.loop-operation.invariant.carried;
       size = c.carry.ensures.size ∙ c.loop-operation.invariant.size;
     }
 

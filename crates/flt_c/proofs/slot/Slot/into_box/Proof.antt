@@ -95,7 +95,7 @@ into_box_spec {M = M} 𝓤 𝓛 𝓜 𝓡 wired =
     let Bx = Box.the_row Inner.the_row Global.the_row ghosts in
     use1 𝓛 (later (some (λ (r : Bx.Denot). ((‵ (flft [] full_share) ⊛ ‵ (flft [] full_share) ⊛ ‵ ftrue) ⊛ ‵ (Bx.own_val r (v ∷ []))) ⊛
     some (λ (ws : Lasts E z.0.0 z.0.3). ‵ (lasts E z.0.0 z.0.3 ws) ⊛ raw ((g.clauses Item Heap ghosts dict drops 𝓛 𝓜.mem 𝓡.returns z.0.0 z.0.3).ensures h.value r (at_exit E z.0.0 z.0.3 ws)))))) (id⊢ 𝓤 _) $
-    await ! tt $ pick ! (λ r. split ! $ split ! $ drop ! $ move ! (1 ∷ []) $ pick ! (λ ws. split ! $ drop ! $ 
+    await ! tt $ pick ! (λ r. split ! $ split ! $ drop ! $ move ! (1 ∷ []) $ pick ! (λ ws. split ! $ drop ! $
     use1 𝓛 (raw (fact 𝓤 (r.value ≡ h.value)) ⊛ raw (fact 𝓤 (box_allocator r ≡ h.alloc))) (id⊢ 𝓤 _) $ split ! $
     heard ! _ (λ value. drop ! $ peeks ! Bx _ (shows 𝓛 Bx) r (v ∷ []) (λ is.
     let typed = ((box.the_field_loose Inner.the_row Global.the_row ghosts inner.the_row_laws global.the_row_laws).lawful 𝓛).typed r (v ∷ []) is in
