@@ -1,5 +1,5 @@
 -- What a call leaves of a fault memory.
-use Rattle.std.specs.Prelude.{◌≡◌, ℕ, List, [], ◌∷◌}
+use Rattle.std.specs.Prelude.{◌≡◌, ℕ, ◌∷◌}
 use Rattle.flt_model.specs.declared.call.Op.{Op}
 use Rattle.flt_dcm.specs.Unit.{UnitView, Answers, Takes}
 use Rattle.flt_queue.specs.declared.job.QueueOp.{QueueOp}

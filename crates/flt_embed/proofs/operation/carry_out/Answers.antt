@@ -1,4 +1,4 @@
-use Rattle.std.proofs.Common.{◌≡◌, ◌∙◌, ◌+◌, List, drop, sym, ap}
+use Rattle.std.proofs.Common.{◌∙◌, ◌+◌, List, drop, sym, ap}
 use Rattle.std.proofs.lemmas.List.{at_drop_more, drop_all}
 use Rattle.flt_embed.specs.Carried.{carried}
 use Rattle.flt_embed.specs.declared.operation.Operation.{Operation}

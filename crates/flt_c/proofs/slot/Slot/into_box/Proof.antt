@@ -1,13 +1,14 @@
-use Rattle.std.proofs.Common.{◌≡◌, ℕ, List, [], ◌∷◌, refl, sym, ap, ◌∙◌}
+-- The slot is taken apart, and the box is made of its pointer and its allocator: what a slot owns is what a box owns.
+use Rattle.std.proofs.Common.{◌≡◌, List, [], ◌∷◌, refl}
 use Rattle.std.proofs.raw_atomic.Walks.{proved}
 use base.Fraction.{full_share}
 use base.Logic.{id⊢}
 use base.Fml.{ftrue, flft}
-use mir.Syntax.{impl, tcons, tnil, dcons, dnil}
+use mir.Syntax.{impl, tcons, tnil, dnil}
 use mir.Val.{Val, vunit, vstruct, vcons, vnil}
 use contract.Monad.{fact}
 use contract.Running.{tables}
-use types.Kit.{‵, raw, ◌⊛◌, some, later, prop, at_ret, ◌$◌, ◌∵◌, !, qed, done, move, keep, drop, use0, use1, use2, split, join, fsplit, fjoin, feq_i, feq_l, pick, await, suffices, group}
+use types.Kit.{‵, raw, ◌⊛◌, some, later, at_ret, ◌$◌, ◌∵◌, !, qed, done, move, keep, drop, use0, use1, use2, split, join, fsplit, pick, await, suffices}
 use types.Run.{enter, of_opd, no_more, and_then, first, blocks, exec, returns, stop, fld}
 use types.Part.{whole, sub}
 use types.ByLocal.{alloc_all, pass_all, free_all, look_at, get, get_in, sets, lands_last, env}
@@ -24,7 +25,6 @@ use denote.Param.NoDrop.{glues}
 use denote.Triple.Carry.{insides_in}
 use denote.Triple.Call.{calls_at_last}
 use denote.Triple.Clauses.{Lasts, lasts, at_exit}
-use denote.Triple.Entry.{on_entry}
 use denote.Triple.Spec.{triple_of}
 use denote.Triple.Walked.{Stays, walk_of, says, stay_dropped, Goes-dropped, ends_at}
 use denote.Triple.Table.{framed}
