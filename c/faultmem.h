@@ -4,7 +4,7 @@
  * Threads: a handle belongs to the thread that opened it. Two handles share nothing, so each may have a thread of its own.
  * Numbers: ticks are of 10 ms; all others are those of docs/SCRIPT.md, with the same ranges.
  * Lines: those of docs/SCRIPT.md#the-report, each with its line feed.
- * Statuses: after each status but FAULTMEM_OK, FAULTMEM_TEXT and those that a call names below, nothing has changed.
+ * Statuses: after each status but FAULTMEM_OK, FAULTMEM_FLASH, FAULTMEM_TEXT and those that a call names below, nothing has changed.
  *
  * The flash is the caller's: two sectors of P pages of 32 bytes, page behind page, sector 0 first, for `flash 2 P`. The fault memory has
  * a copy of its image. A call that writes hands out operations; the caller carries them out in their order, and then calls
@@ -115,7 +115,7 @@ int faultmem_post(struct faultmem *m, uint32_t urgent, uint32_t block, const uin
 int faultmem_ask(struct faultmem *m, uint32_t block);                          /* block: below the number of `blocks` */
 
 /*
- * Steps that use the flash. They may hand out operations. FLASH: nothing has changed. A line `save -> flash` or `get N -> flash` is OK
+ * Steps that use the flash. They may hand out operations. FLASH: no operation is handed out, and the image is as it was. A line `save -> flash` or `get N -> flash` is OK
  * with an answer that failed; its operations wait all the same.
  */
 int faultmem_save(struct faultmem *m);

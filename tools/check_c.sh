@@ -1,5 +1,5 @@
 #!/bin/sh
-# Builds the C library's programs with both sanitizers and runs them: the first program, the example that tears each operation, a fuzz, and
+# Builds the C library's programs with both sanitizers and runs them: the first program, the example that tears each operation, calls without heap, a fuzz, and
 # the calls from Python against `faultmem run`. The words: how many calls the fuzz makes, and how many scripts are compared.
 # It says so and does nothing where cc, the library or the kit is not there; the Python part where python3 is not.
 cd "$(dirname "$0")/.." || exit 1
@@ -23,12 +23,15 @@ if command -v c++ >/dev/null 2>&1; then
     cp "$out/header.c" "$out/header.cpp"
     c++ -std=c++17 $warnings -Ic -c "$out/header.cpp" -o "$out/header.o" || exit 1
 fi
-for name in first example fuzz; do
+for name in first example fuzz heap; do
+    wrapped=
+    [ "$name" = heap ] && wrapped=-Wl,--wrap=malloc,--wrap=realloc
     "$cc" -std=c99 -O1 -g $warnings -fsanitize=address,undefined -fno-sanitize-recover=all -Ic "c/$name.c" c/faultmem.c "$library" "$heap" \
-        -o "$out/$name" || exit 1
+        $wrapped -o "$out/$name" || exit 1
 done
 "$out/first" >/dev/null || exit 1
 "$out/example" || exit 1
+"$out/heap" || exit 1
 "$out/fuzz" "$calls" || exit 1
 command -v python3 >/dev/null 2>&1 || { echo "check_c: no python3: its part is skipped"; exit 0; }
 "$cc" -std=c99 -O2 $warnings -fPIC -shared -Ic c/faultmem.c -Wl,--whole-archive "$library" -Wl,--no-whole-archive "$heap" \
