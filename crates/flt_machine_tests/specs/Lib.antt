@@ -4,3 +4,4 @@ pub mod DebounceExamples
 pub mod SettingExamples
 pub mod ListExamples
 pub mod FitExamples
+pub mod LifeExamples

@@ -1,5 +1,5 @@
 //! The status machine, from its configuration to the responses of testers; the ticket lock, the queue, and the subscribers of status
-//! changes: their table, and what they are told.
+//! changes: their table, and what they are told; and scripts.
 mod comparison;
 mod configurations;
 mod debouncing;
@@ -8,6 +8,7 @@ mod jobs;
 mod manager;
 mod ranks;
 mod requests;
+mod scripts;
 mod statuses;
 mod subscribers;
 mod testers;

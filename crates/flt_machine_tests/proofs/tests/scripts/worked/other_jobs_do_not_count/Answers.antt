@@ -1,6 +1,6 @@
 use Rattle.std.proofs.Common.{⊎_elim}
 use Rattle.flt_queue.specs.Queue.{waiting, pending, taken}
-use Rattle.flt_script_tests.proofs.tests.worked.other_jobs_do_not_count.Goals as goal
+use Rattle.flt_machine_tests.proofs.tests.scripts.worked.other_jobs_do_not_count.Goals as goal
 
 pub returns : goal.returns
 unfolding waiting pending taken

@@ -2,7 +2,7 @@
 ghost use Rattle.flt_flash.specs.declared.arm.Arm.{Arm};
 ghost use Rattle.flt_config.specs.declared.config.Config.{Config};
 ghost use Rattle.flt_config.specs.declared.persist.Persist.{Persist};
-ghost use Rattle.flt_script_tests.specs.LifeExamples.{NumbersDoNotLeap, DarkLifeKeepsBlocks, RunsDoNotStop, OtherJobsDoNotCount, ReadsDoNotLookAhead, DrainsDoNotStopEarly, StartsEndAtTheirOwnArm, ArmsStayInTheirLife, DarkLifeArms, LastIsNamed};
+ghost use Rattle.flt_machine_tests.specs.LifeExamples.{NumbersDoNotLeap, DarkLifeKeepsBlocks, RunsDoNotStop, OtherJobsDoNotCount, ReadsDoNotLookAhead, DrainsDoNotStopEarly, StartsEndAtTheirOwnArm, ArmsStayInTheirLife, DarkLifeArms, LastIsNamed};
 
 /// Numbers that are acknowledged do not leap.
 pub fn numbers_do_not_leap()

@@ -1,6 +1,6 @@
 use Rattle.std.proofs.Common.{◌≡◌, ⊎_elim, ap, refl, arith}
 use Rattle.flt_store_model.specs.Holding.{Generation}
-use Rattle.flt_script_tests.proofs.tests.worked.last_is_named.Goals as goal
+use Rattle.flt_machine_tests.proofs.tests.scripts.worked.last_is_named.Goals as goal
 
 pub returns : goal.returns
 returns c = λ config state. record {

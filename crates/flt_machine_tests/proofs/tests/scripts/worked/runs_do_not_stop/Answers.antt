@@ -3,8 +3,8 @@ use Rattle.std.specs.Prelude.{IsFalse}
 use Rattle.std.proofs.lemmas.List.Elements.{All-cons, All-nil}
 use Rattle.flt_life_model.specs.Chain.{LifeView}
 use Rattle.flt_life_model.specs.Lives.{is_refused}
-use Rattle.flt_script_tests.specs.LifeExamples.{dark_life}
-use Rattle.flt_script_tests.proofs.tests.worked.runs_do_not_stop.Goals as goal
+use Rattle.flt_machine_tests.specs.LifeExamples.{dark_life}
+use Rattle.flt_machine_tests.proofs.tests.scripts.worked.runs_do_not_stop.Goals as goal
 
 pub returns : goal.returns
 returns c = record {

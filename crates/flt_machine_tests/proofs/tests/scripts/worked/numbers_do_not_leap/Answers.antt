@@ -1,5 +1,5 @@
 use Rattle.std.proofs.Common.{arith}
-use Rattle.flt_script_tests.proofs.tests.worked.numbers_do_not_leap.Goals as goal
+use Rattle.flt_machine_tests.proofs.tests.scripts.worked.numbers_do_not_leap.Goals as goal
 
 pub returns : goal.returns
 returns c = record {

@@ -1,7 +1,7 @@
 use Rattle.std.proofs.Common.{◌≡◌, ℕ, List, refl, ap, arith}
 use Rattle.std.specs.Prelude.{slice_index_or}
 use Rattle.flt_flash.specs.declared.arm.Arm.{Arm}
-use Rattle.flt_script_tests.proofs.tests.worked.arms_stay_in_their_life.Goals as goal
+use Rattle.flt_machine_tests.proofs.tests.scripts.worked.arms_stay_in_their_life.Goals as goal
 
 pub returns : goal.returns
 returns c = λ arm. record {

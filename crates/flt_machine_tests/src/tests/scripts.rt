@@ -1,3 +1,5 @@
+//! The script: worked lines and blocks, and each limit; and what a life makes of its steps: which parts are possible, what is kept of their
+//! answers, the room for its calls, and the lines of the report.
 use flt_did::{DID_ROWS, DidTable, did_0101, did_0103, did_0107};
 use flt_flash::{Arm, Pattern};
 use flt_model::Report;

@@ -1,5 +1,5 @@
 use Rattle.std.proofs.Common.{refl, arith}
-use Rattle.flt_script_tests.proofs.tests.worked.drains_do_not_stop_early.Goals as goal
+use Rattle.flt_machine_tests.proofs.tests.scripts.worked.drains_do_not_stop_early.Goals as goal
 
 pub returns : goal.returns
 returns c = record {

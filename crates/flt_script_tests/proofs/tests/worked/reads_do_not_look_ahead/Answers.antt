@@ -1,4 +1,0 @@
-use Rattle.flt_script_tests.proofs.tests.worked.reads_do_not_look_ahead.Goals as goal
-
-pub returns : goal.returns
-returns c = λ first job got. got
