@@ -1,3 +1,4 @@
 pub mod Carried
 pub mod Diary
+pub mod Examples
 pub mod Made

@@ -12,6 +12,7 @@ mod memory;
 mod operation;
 mod reading;
 mod storing;
+pub mod worked;
 
 pub use fault::Fault;
 pub use memory::{Memory, Stage};
