@@ -69,6 +69,8 @@ class Short(NamedTuple):
     # The commands of the system, and the programs, that it needs.
     needs: tuple[str, ...] = ()
     programs: tuple[str, ...] = ()
+    # The files of the repository that it needs.
+    files: tuple[str, ...] = ()
     # What it prints, as a pattern.
     due: str = ""
     # What is run with --long.
@@ -85,6 +87,16 @@ def filled(text: str, places: dict[str, str]) -> str:
     for name, value in places.items():
         text = text.replace("{" + name + "}", value)
     return text
+
+
+LIBRARY = "crates/flt_c/out/libflt_c.a"
+HEAP = '"$(dirname "$(rt doc)")/c/liblibc_c.a"'
+
+
+def linked(command: str, due: str) -> Short:
+    """A command that links the library for C."""
+    whole = filled(command, {"library": LIBRARY, "heap": HEAP})
+    return Short(whole, whole, needs=("cc", "rt"), files=(LIBRARY,), due=due)
 
 
 def tested(test: str, count: str) -> Short:
@@ -133,6 +145,11 @@ SHORTS = (
         "./faultmem live crates/faultmem_live/data/config </dev/null",
         "./faultmem live crates/faultmem_live/data/config </dev/null",
         programs=("faultmem_live",),
+    ),
+    linked("cc -std=c99 -Ic c/first.c c/faultmem.c {library} {heap} -o first && ./first", r"^save -> 1$"),
+    linked(
+        "cc -std=c99 -O2 -fPIC -shared -Ic c/faultmem.c -Wl,--whole-archive {library} -Wl,--no-whole-archive {heap} -o libfaultmem.so",
+        "",
     ),
     Short(
         "mkdir -p made && tools/release.sh gate.log made",
@@ -325,7 +342,7 @@ def printed_by(commands, wrapper, port, seconds=SECONDS):
     """What these commands print, each in a text of its own, run in a new folder that looks like the top of the repository."""
     script = "".join(f"echo; echo '{MARK}'\n{command}\n" for command, _ in commands)
     with tempfile.TemporaryDirectory() as folder:
-        for name in ("bench", "clients", "crates", "crates.txt", "docs", "tools"):
+        for name in ("bench", "c", "clients", "crates", "crates.txt", "docs", "tools"):
             os.symlink(f"{TOP}/{name}", f"{folder}/{name}")
         with open(f"{folder}/faultmem", "w", encoding="utf-8") as shim:
             # A page may say `try` itself.
@@ -375,6 +392,7 @@ def shorts_of(section: str) -> list[tuple[str, Short | None]]:
 def absent_for(short: Short) -> list[str]:
     """What a command needs and is not here, by name."""
     absent = [it for it in short.needs if shutil.which(it) is None]
+    absent += [it for it in short.files if not os.path.exists(f"{TOP}/{it}")]
     if kind_of(set(short.programs)):
         return absent
     # Where each is there, they are not all of one kind.
