@@ -7,14 +7,15 @@ use crate::object::trace::Trace;
 use json::{Reader, Scratch, Token};
 use std::alloc::{AllocError, Global};
 
-/// The strings of an array that is open, up to its end; nothing where it has something else.
+/// The strings of an array that is open, up to its end; nothing where it has something else. There is room for so many without a copy.
 fn strings_left<'a>(
     alloc: Global,
     reader: &mut Reader<'a>,
+    room: usize,
 ) -> Result<Option<Vec<&'a str>>, AllocError>
     ensures { IfOk result (λ found. IfSome found (λ texts. reader.old ≡ array_tokens (seen texts.items) reader.new)) }
 {
-    let mut texts = Vec::new(alloc);
+    let mut texts = Vec::with_capacity(alloc, room)?;
     while let Some(token) = reader.next() {
         match token {
             Token::String(text) => texts.push(text)?,
@@ -25,11 +26,12 @@ fn strings_left<'a>(
     Ok(None)
 }
 
-/// The strings of a member of this key, which is next; nothing where something else is.
+/// The strings of a member of this key, which is next; nothing where something else is. There is room for so many without a copy.
 fn strings_of<'a>(
     alloc: Global,
     reader: &mut Reader<'a>,
     key: &str,
+    room: usize,
 ) -> Result<Option<Vec<&'a str>>, AllocError>
     ensures { IfOk result (λ found. IfSome found (λ texts. reader.old ≡ list_tokens key.now (seen texts.items) reader.new)) }
 {
@@ -38,7 +40,7 @@ fn strings_of<'a>(
         _ => return Ok(None),
     }
     match reader.next() {
-        Some(Token::BeginArray) => strings_left(alloc, reader),
+        Some(Token::BeginArray) => strings_left(alloc, reader, room),
         _ => Ok(None),
     }
 }
@@ -73,13 +75,13 @@ fn texts_in_order<'a>(
     let Some(Token::BeginObject) = reader.next() else {
         return Ok(None);
     };
-    let Some(answers) = strings_of(alloc, &mut reader, "answers")? else {
+    let Some(answers) = strings_of(alloc, &mut reader, "answers", 0)? else {
         return Ok(None);
     };
-    let Some(base) = strings_of(alloc, &mut reader, "base")? else {
+    let Some(base) = strings_of(alloc, &mut reader, "base", 0)? else {
         return Ok(None);
     };
-    let Some(journal) = strings_of(alloc, &mut reader, "journal")? else {
+    let Some(journal) = strings_of(alloc, &mut reader, "journal", answers.len())? else {
         return Ok(None);
     };
     let Some(script) = last_string(&mut reader, "script") else {
