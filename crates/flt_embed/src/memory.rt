@@ -11,6 +11,7 @@ ghost use Rattle.flt_life_model.specs.declared.life.Boot.TheVariants.{Refused};
 ghost use Rattle.flt_queue.specs.Queue as jobs;
 ghost use Rattle.flt_report.specs.Answer.{step_line};
 ghost use Rattle.flt_embed.specs.declared.fault.Fault.TheVariants.{Text};
+ghost use Rattle.flt_embed.specs.declared.memory.Stage.TheVariants.{Dark, Pending, Up};
 ghost use Rattle.flt_restore.specs.declared.fault.StartFault.TheVariants.{Flash};
 
 use crate::fault::Fault;
@@ -249,12 +250,14 @@ impl Memory {
 
     /// Says that all operations were carried out.
     pub fn done(&mut self) -> Result<(), Fault>
+        ensures pending { OnOk result (self.old.stage ≡ Pending) }
+        ensures stage { OnOk result (self.new.stage ≡ self.old.then) }
         ensures image { self.new.image ≡ self.old.image }
         ensures refused { IfErr result (λ fault. ChangesNothing fault → self.new ≡ self.old) }
     {
-        if self.stage != Stage::Pending {
+        let Stage::Pending = self.stage else {
             return Err(Fault::Nothing);
-        }
+        };
         self.stage = self.then;
         self.operations.clear();
         Ok(())
@@ -262,12 +265,14 @@ impl Memory {
 
     /// Says that an operation failed, and what the flash holds now. It does not run any more until the power comes.
     pub fn failed(&mut self, alloc: Global, image: &[u8]) -> Result<(), Fault>
+        ensures pending { OnOk result (self.old.stage ≡ Pending) }
+        ensures stage { OnOk result (self.new.stage ≡ Dark) }
         ensures image { OnOk result (self.new.image.items ≡ image.now) }
         ensures refused { IfErr result (λ fault. ChangesNothing fault → self.new ≡ self.old) }
     {
-        if self.stage != Stage::Pending {
+        let Stage::Pending = self.stage else {
             return Err(Fault::Nothing);
-        }
+        };
         let image = image_from(alloc, self.config.config().pages, Some(image))?;
         self.image = image;
         self.operations.clear();
@@ -379,6 +384,7 @@ impl Memory {
         dids: &DidTable<DID_ROWS>,
         step: Step,
     ) -> Result<(), Fault>
+        ensures up { OnOk result (self.old.stage ≡ Up) }
         ensures made { OnOk result ((told : Told) × (self.new.line.items ≡ step_line step told) × IsMade (action_of step) told self.old self.new) }
         ensures carried { OnOk result (HandsOut self.old self.new) }
         ensures refused { IfErr result (λ fault. ChangesNothing fault → self.new ≡ self.old) }
@@ -418,6 +424,7 @@ impl Memory {
     /// Puts 1 to 32 bytes into an application block at once. It has no line. If they could not be written, it is `Flash`, and what is to be
     /// done to the flash is told all the same.
     pub fn put(&mut self, alloc: Global, block: u8, bytes: &[u8]) -> Result<(), Fault>
+        ensures up { OnOk result (self.old.stage ≡ Up) }
         ensures carried { OnOk result (HandsOut self.old self.new) }
         ensures refused { IfErr result (λ fault. ChangesNothing fault → self.new ≡ self.old) }
     {
