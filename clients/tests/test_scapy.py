@@ -79,16 +79,12 @@ class Scapy(Serving):
     def test_the_scanner(self) -> None:
         """UDS_Scanner finds services, sessions and an identifier; each answer is the one due."""
         python_with(UDS_SCAN)
-        table, journal = self.folder / "answers", self.folder / "j.script"
-        capture = self.folder / "c.pcap"
-        table.write_text(TABLE, encoding="ascii")
-        words = ["--answers", str(table), "--journal", str(journal), "--capture", str(capture)]
-        process, ports = self.start(*PAUSE, *words)
-        scanned = self.client(UDS_SCAN, "scan", ports[0])
-        self.end(process)
-        assert isinstance(scanned, dict)
-        self.assertTrue(scanned["completed"])
-        found = scanned["found"]
+        found, journal, capture, port = self.scanned("30")
+        for pause in ("100", "300"):
+            # None is the answer where scapy lost it.
+            if all(answer is not None for case in found.values() for _, _, answer in case):
+                break
+            found, journal, capture, port = self.scanned(pause)
         states = {state for state, _, _ in found["UDS_ServiceEnumerator"]}
         self.assertEqual(states, {"session1", "session3tp1"})
         for state in states:
@@ -101,10 +97,25 @@ class Scapy(Serving):
             self.assertEqual(sessions, ["1003"])
             read = [it for it in rows["UDS_RDBIEnumerator"] if it[1][:2] == "62"]
             self.assertEqual(read, [["22f190", "62f1904641554c54"]])
-        self.check_answers(found, journal.read_text(encoding="ascii"))
+        self.check_answers(found, journal)
         with contextlib.suppress(unittest.SkipTest):
             tool("tshark")
-            self.assertEqual(complaints(frames_of_capture(capture.read_bytes(), ports[0])), [])
+            self.assertEqual(complaints(frames_of_capture(capture, port)), [])
+
+    def scanned(self, pause: str) -> tuple[dict[str, list[list[str]]], str, bytes, int]:
+        """What the scanner found of an entity with this pause; its journal, capture and port."""
+        table, journal = self.folder / "answers", self.folder / f"j{pause}.script"
+        capture = self.folder / f"c{pause}.pcap"
+        table.write_text(TABLE, encoding="ascii")
+        words = ["--answers", str(table), "--journal", str(journal), "--capture", str(capture)]
+        process, ports = self.start("--pause", pause, *words)
+        scanned = self.client(UDS_SCAN, "scan", ports[0])
+        self.end(process)
+        assert isinstance(scanned, dict)
+        self.assertTrue(scanned["completed"])
+        found = scanned["found"]
+        assert isinstance(found, dict)
+        return found, journal.read_text(encoding="ascii"), capture.read_bytes(), ports[0]
 
     def check_answers(self, found: dict[str, list[list[str]]], journal: str) -> None:
         """Compares each answer that the scanner got with those of `run` to the same calls."""
