@@ -2,8 +2,7 @@
 # Compiles the header for C as C99 and as C++17, builds the programs of c/ with both sanitizers and runs them: the first program, the example
 # that tears each operation, calls without heap, a fuzz, and the calls from Python against `faultmem run`. The words: how many calls the
 # fuzz makes, and how many scripts are compared. FLT_C is another libflt_c.a, and RUN another program `faultmem`.
-# It says what it leaves out where cc, the kit, the library or python3 is not there. It builds no library: `rt lib` in crates/flt_c does, and
-# proves all that the library stands on once more.
+# It says what it leaves out where cc, the kit, the library or python3 is not there. It builds no library: `tools/build_c.sh` does.
 cd "$(dirname "$0")/.." || exit 1
 calls=${1:-10000}
 scripts=${2:-100}

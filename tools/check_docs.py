@@ -144,6 +144,7 @@ SHORTS = (
         "./faultmem live crates/faultmem_live/data/config </dev/null",
         programs=("faultmem_live",),
     ),
+    Short("tools/build_c.sh", "tools/build_c.sh", needs=("rt",)),
     linked("cc -std=c99 -Ic c/first.c c/faultmem.c {library} {heap} -o first && ./first", "cc -std=c99 -Ic -c c/first.c c/faultmem.c"),
     linked(
         "cc -std=c99 -O2 -fPIC -shared -Ic c/faultmem.c -Wl,--whole-archive {library} -Wl,--no-whole-archive {heap} -o libfaultmem.so",

@@ -3,7 +3,7 @@ ghost use Rattle.std.specs.Prelude.{◌≡◌, ◌<◌, ◌≤◌, ◌^◌, ◌+
 ghost use Rattle.std.specs.Borrow.{Bor};
 ghost use Rattle.flt_notify.specs.declared.change.Change.{Change as ChangeView};
 ghost use Rattle.flt_notify.specs.Value.{next_value, IsInRange};
-ghost use Rattle.flt_notify.specs.Rows.{rows_kinds, row_kind, is_kind, has_kind};
+ghost use Rattle.flt_notify.specs.Rows.{rows_kinds, row_kind, is_kind, has_kind, row_of, IsAnswerTo};
 
 use crate::change::Change;
 use crate::kinds::next;
@@ -33,6 +33,7 @@ impl<const ROWS: usize> Subscribers<ROWS> {
     /// The row of a kind, where there is one.
     #[tactic(auto, using(crate::proofs::RowsLemmas::found_kind))]
     fn row(&self, kind: u8) -> Option<&Row>
+        ensures row { option_copied result ≡ row_of self.now.rows.items kind }
         ensures found { option_map row_kind (option_copied result) ≡ find (is_kind kind) (kinds_of self.now) }
         ensures named { IfSome result (λ row. row.now.kind ≡ kind) }
         ensures range { IfSome result (λ row. row.now.kind ≤ 2) }
@@ -76,6 +77,7 @@ impl<const ROWS: usize> Subscribers<ROWS> {
         requires range { v < 2 ^ 32 }
         requires change { IsInRange change }
         ensures value { result ≡ next_value kind v change }
+        ensures called { IsAnswerTo self.now.rows.items kind v change result }
         ensures range { result < 2 ^ 32 }
     {
         match self.row(kind) {

@@ -1,6 +1,8 @@
 //! The values of the three kinds.
 ghost use Rattle.std.specs.Prelude.{◌≡◌, ◌<◌, ◌≤◌, ◌^◌, ℕ, All, length, replicate, slice_get, slice_set, slice_index_or, fold};
 ghost use Rattle.flt_notify.specs.Changes.{changes_from, statuses};
+ghost use Rattle.flt_notify.specs.Rows.{AreAnswersTo};
+ghost use Rattle.flt_notify.specs.Subscribers.{AreTold};
 ghost use Rattle.flt_notify.specs.Value.{IsInRange, next_values};
 
 use crate::change::Change;
@@ -56,7 +58,8 @@ impl Values {
     /// Takes each value through a change, by its subscriber.
     fn take<const ROWS: usize>(&mut self, subscribers: &Subscribers<ROWS>, change: Change)
         requires { IsInRange change }
-        ensures { self.new ≡ next_values 0 self.old change }
+        ensures values { self.new ≡ next_values 0 self.old change }
+        ensures called { AreAnswersTo subscribers.now.rows.items 0 self.old change self.new }
     {
         let [v0, v1, v2] = self.by_kind;
         self.by_kind = [
@@ -76,7 +79,8 @@ impl Values {
     )
         requires one_each { length before.now ≡ length states.now }
         requires events { length before.now ≤ 65536 }
-        ensures { self.new ≡ fold (next_values 0) self.old (changes_from place 0 before.now (statuses states.now)) }
+        ensures values { self.new ≡ fold (next_values 0) self.old (changes_from place 0 before.now (statuses states.now)) }
+        ensures called { AreTold subscribers.now self.old (changes_from place 0 before.now (statuses states.now)) self.new }
     {
         for event in 0..before.len() {
             let change = Change {

@@ -8,7 +8,7 @@ ghost use Rattle.flt_shared.specs.Boxed.{config_in, unit_in};
 ghost use Rattle.flt_shared.specs.Call.{MayBeAsked, reply_after, with_response};
 ghost use Rattle.flt_shared.specs.Start.{some_start, start_of};
 ghost use Rattle.flt_notify.specs.Changes.{changes_from, statuses, statuses_after};
-ghost use Rattle.flt_notify.specs.Subscribers.{kinds_of};
+ghost use Rattle.flt_notify.specs.Subscribers.{AreTold, kinds_of};
 ghost use Rattle.flt_notify.specs.Table.{HasValuesOf, IsAtZero, kinds_in, values_in};
 ghost use Rattle.flt_notify.specs.Value.{next_values};
 ghost use Rattle.flt_notify.specs.Watched.{Watches, values_of, watched_unit};
@@ -110,6 +110,8 @@ impl Watched {
         ensures calls { self.new.calls ≡ min (self.old.calls + 1) (2 ^ 32 - 1) }
         ensures values { (life : Start) (now : History) → Stands life now (watched_unit self.old)
             → self.new.values ≡ fold (next_values 0) self.old.values (changes_from self.old.calls 0 before.now (statuses_after life now)) }
+        ensures called { (life : Start) (now : History) → Stands life now (watched_unit self.old)
+            → AreTold subscribers.now self.old.values (changes_from self.old.calls 0 before.now (statuses_after life now)) self.new.values }
     {
         let states = self.guarded.state.states();
         self.values
