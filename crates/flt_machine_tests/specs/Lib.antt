@@ -5,3 +5,4 @@ pub mod SettingExamples
 pub mod ListExamples
 pub mod FitExamples
 pub mod LifeExamples
+pub mod ScriptExamples

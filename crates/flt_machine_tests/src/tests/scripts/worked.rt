@@ -1,8 +1,10 @@
-//! Worked examples of lives, which the checker computes: of what is not so as well, where a rule that is left out would let it be so.
+//! Worked examples of lives and of scripts, which the checker computes: of what is not so as well, where a rule that is left out would let it
+//! be so.
 ghost use Rattle.flt_flash.specs.declared.arm.Arm.{Arm};
 ghost use Rattle.flt_config.specs.declared.config.Config.{Config};
 ghost use Rattle.flt_config.specs.declared.persist.Persist.{Persist};
 ghost use Rattle.flt_machine_tests.specs.LifeExamples.{NumbersDoNotLeap, DarkLifeKeepsBlocks, RunsDoNotStop, OtherJobsDoNotCount, ReadsDoNotLookAhead, DrainsDoNotStopEarly, StartsEndAtTheirOwnArm, ArmsStayInTheirLife, DarkLifeArms, LastIsNamed};
+ghost use Rattle.flt_machine_tests.specs.ScriptExamples.{BytesOfALine, NumbersHaveTenDigits, NumbersOfACounter, NumbersOfAnEvent, WorkedLoad};
 
 /// Numbers that are acknowledged do not leap.
 pub fn numbers_do_not_leap()
@@ -52,4 +54,29 @@ pub fn dark_life_arms()
 /// The generation that was acknowledged last is named with its state, also behind a dark life.
 pub fn last_is_named()
     ensures { (c : Config) (state : Persist) → LastIsNamed c state }
+{}
+
+/// A number has 1 to 10 digits, also behind a minus sign.
+pub fn numbers_have_ten_digits()
+    ensures { NumbersHaveTenDigits }
+{}
+
+/// The bytes at the bounds of what may stand in a line.
+pub fn bytes_of_a_line()
+    ensures { BytesOfALine }
+{}
+
+/// Each number of an event is kept up to its greatest value.
+pub fn numbers_of_an_event()
+    ensures { NumbersOfAnEvent }
+{}
+
+/// Each number of a counter is kept up to its greatest value.
+pub fn numbers_of_a_counter()
+    ensures { NumbersOfACounter }
+{}
+
+/// The configuration of a load, and the reports of one of nine reports.
+pub fn worked_load()
+    ensures { WorkedLoad }
 {}
