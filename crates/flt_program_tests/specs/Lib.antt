@@ -1,1 +1,2 @@
 pub mod KindExamples
+pub mod VerdictExamples
