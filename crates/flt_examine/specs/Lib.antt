@@ -4,3 +4,4 @@ pub mod Source
 pub mod Lines
 pub mod Traced
 pub mod Examination
+pub mod Examples

@@ -12,6 +12,7 @@ mod examining;
 mod inspecting;
 mod source;
 mod tracing;
+pub mod worked;
 
 pub use examining::{Examined, examine};
 pub use inspecting::inspect;

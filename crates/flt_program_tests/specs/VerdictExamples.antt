@@ -12,8 +12,6 @@ use Rattle.flt_step.specs.declared.step.Step.TheVariants as steps
 use Rattle.flt_filter.specs.Verdict.{Due, large_due, unread_due}
 use Rattle.flt_dump.specs.Dump.{DumpContent, no_script, begun, no_page}
 use Rattle.flt_dump.specs.Listing.{listing_text}
-use Rattle.flt_examine.specs.declared.command.Command.TheVariants.{Inspect, Trace, Audit}
-use Rattle.flt_examine.specs.Command.{command_of}
 use Rattle.flt_examine.specs.Examination.{usage_due}
 use Rattle.flt_examine.specs.Inspection.{due_by, image_due, inspected}
 use Rattle.flt_run.specs.declared.command.Command.TheVariants.{Run, Check, Load}
@@ -52,13 +50,6 @@ abbrev pub HeldIsTold : Type 0
 HeldIsTold = (dump : DumpContent) (held : Generation) → image_held dump.config dump.image ≡ Ok held
     → image_due dump ≡ record { status = 0; text = line (codes "generation " ++ decimal held.number) ++ listing_text dump.config.pages numbers dump.image }
 
--- One word is a command, in small letters.
-pub record WordsOfAnInspection : Type 0 where
-  pub words : map (λ word. command_of (word ∷ [])) (codes "inspect" ∷ codes "trace" ∷ codes "audit" ∷ codes "dump" ∷ codes "Audit" ∷ [])
-      ≡ Some Inspect ∷ Some Trace ∷ Some Audit ∷ None ∷ None ∷ []
-  pub none : command_of [] ≡ None
-  pub two : command_of (codes "audit" ∷ codes "audit" ∷ []) ≡ None
-
 -- A load has 1 to 60,000 reports, in one to five digits.
 pub record ReportsOfALoad : Type 0 where
   pub counts : map count_of (codes "0" ∷ codes "1" ∷ codes "00004" ∷ codes "000004" ∷ codes "60000" ∷ codes "60001" ∷ [] ∷ [])
@@ -73,5 +64,5 @@ pub record ReportsOfALoad : Type 0 where
 abbrev pub StepsOfAWatch : Type 0
 StepsOfAWatch = (arm : Arm) → map is_watched
     (steps.Report 0 Failed ∷ steps.Show 0 ∷ steps.Cycle 0 ∷ steps.Tick 1 ∷ steps.Signal 0 0 ∷ steps.Enable 0 true ∷ steps.Request 0 (record { items = [] })
-      ∷ steps.Save ∷ steps.Post false 0 (record { items = [] }) ∷ steps.Drain ∷ steps.Get 0 ∷ steps.Ask 0 ∷ steps.Arming arm ∷ [])
+    ∷ steps.Save ∷ steps.Post false 0 (record { items = [] }) ∷ steps.Drain ∷ steps.Get 0 ∷ steps.Ask 0 ∷ steps.Arming arm ∷ [])
     ≡ true ∷ true ∷ true ∷ true ∷ true ∷ true ∷ true ∷ false ∷ false ∷ false ∷ false ∷ false ∷ false ∷ []

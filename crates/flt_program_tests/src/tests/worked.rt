@@ -1,6 +1,6 @@
 //! Worked values of the kinds of subscribers, worked verdicts, and worked words, which the checker computes.
 ghost use Rattle.flt_program_tests.specs.KindExamples.{KindsAtTheirEnds};
-ghost use Rattle.flt_program_tests.specs.VerdictExamples.{HeldIsTold, LinesOfADump, RefusalsOfAnInspection, ReportsOfALoad, StepsOfAWatch, WordsOfAnInspection};
+ghost use Rattle.flt_program_tests.specs.VerdictExamples.{HeldIsTold, LinesOfADump, RefusalsOfAnInspection, ReportsOfALoad, StepsOfAWatch};
 
 /// The values of the kinds behind a change more, at their ends.
 pub fn kinds_at_their_ends()
@@ -20,11 +20,6 @@ pub fn lines_of_a_dump()
 /// The generation that is held is told before the lines of the image.
 pub fn held_is_told()
     ensures { HeldIsTold }
-{}
-
-/// One word is a command of an inspection.
-pub fn words_of_an_inspection()
-    ensures { WordsOfAnInspection }
 {}
 
 /// How many reports a load may have, and what other words ask for.
