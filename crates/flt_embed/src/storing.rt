@@ -20,7 +20,7 @@ use flt_flash::Blocks;
 use flt_image::{block_table, fee_numbers, laws};
 use flt_life_model::StepAnswer;
 use flt_nvm::Nvm;
-use flt_queue::{Job, JobQueue, QueueOp, QueueReply, WAITING};
+use flt_queue::{Job, JobQueue, QueueKind, QueueOp, WAITING};
 use flt_store::{SaveFault, StartFault, Store};
 use std::alloc::{AllocError, Global};
 
@@ -293,19 +293,21 @@ fn write_job<D: Blocks + Drop>(
     written
 }
 
-/// Takes the next job, writes it, and notes what became of it: whether it was written, or nothing where no job waits.
+/// Takes the next job, writes it, and notes what became of it: whether it was written, or nothing where no job waits. The job is
+/// written in place of what `job` holds.
 fn take_job<D: Blocks + Drop>(
     queue: &mut JobQueue,
     store: &mut Store<D>,
     config: &ValidConfig,
+    job: &mut Job,
 ) -> Option<bool>
     requires blocks { queue.old.blocks ≡ config.now.blocks }
     requires alive { IsAlive config.now store.old }
     ensures blocks { queue.new.blocks ≡ queue.old.blocks }
     ensures running { (held spare : Generation) → IsRunning config.now held spare store.old → IsRunning config.now held spare store.new }
 {
-    match queue.apply(&QueueOp::Take) {
-        QueueReply::Job(job) => Some(write_job(queue, store, config, &job)),
+    match queue.apply_into(&QueueOp::Take, job) {
+        QueueKind::Job(()) => Some(write_job(queue, store, config, job)),
         _ => None,
     }
 }
@@ -320,10 +322,11 @@ fn drain<D: Blocks + Drop>(
     requires alive { IsAlive config.now store.old }
     ensures blocks { queue.new.blocks ≡ queue.old.blocks }
 {
+    let mut job = Job::room();
     let mut written: u16 = 0;
     let mut failed: u16 = 0;
     for _job in 0..WAITING {
-        let Some(was_written) = take_job(queue, store, config) else {
+        let Some(was_written) = take_job(queue, store, config, &mut job) else {
             break;
         };
         written = written.saturating_add(u16::from(was_written));

@@ -17,8 +17,8 @@ use Rattle.flt_model.specs.Reply.{Reply}
 use Rattle.flt_queue.specs.Call as queued
 use Rattle.flt_queue.specs.Queue as queue
 use Rattle.flt_queue.specs.declared.job.QueueOp.{QueueOp}
-use Rattle.flt_queue.specs.declared.job.QueueReply.{QueueReply}
-use Rattle.flt_queue.specs.declared.job.QueueReply.TheVariants as replies
+use Rattle.flt_queue.specs.Reply.{QueueReply}
+use Rattle.flt_queue.specs.declared.job.QueueReplyOf.TheVariants as replies
 use Rattle.flt_step.specs.declared.step.Step.{Step}
 use Rattle.flt_step.specs.declared.step.Step.TheVariants as steps
 use Rattle.flt_store.specs.declared.fault.SaveFault.{SaveFault}

@@ -6,7 +6,7 @@ use Rattle.flt_config.specs.declared.config.Config.{Config}
 use Rattle.flt_store_model.specs.Holding.{Generation}
 use Rattle.flt_queue.specs.Call as queued
 use Rattle.flt_queue.specs.Queue as queue
-use Rattle.flt_queue.specs.declared.job.QueueReply.TheVariants.{NoJob}
+use Rattle.flt_queue.specs.declared.job.QueueReplyOf.TheVariants.{NoJob}
 use Rattle.flt_store.specs.declared.store.Store.{Store}
 use Rattle.flt_store.specs.Store.{IsRunning, driver_of}
 use Rattle.flt_turn.specs.Sums.{one_if}

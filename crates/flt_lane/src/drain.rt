@@ -5,7 +5,7 @@ ghost use Rattle.flt_life_model.specs.declared.action.Action.TheVariants as acti
 ghost use Rattle.flt_queue.specs.Call as queued;
 ghost use Rattle.flt_queue.specs.Queue.{IsJob};
 ghost use Rattle.flt_queue.specs.declared.job.QueueOp.TheVariants as ops;
-ghost use Rattle.flt_queue.specs.declared.job.QueueReply.{QueueReply as Replied};
+ghost use Rattle.flt_queue.specs.Reply.{QueueReply as Replied};
 ghost use Rattle.flt_turn.specs.declared.answer.Answer.{Answer};
 ghost use Rattle.flt_step.specs.declared.step.Step.TheVariants as steps;
 ghost use Rattle.flt_store.specs.Store.{IsAlive};
@@ -19,7 +19,7 @@ ghost use Rattle.flt_lane.specs.Work.{CanDrain};
 use flt_config::ValidConfig;
 use flt_flash::Blocks;
 use flt_life_model::{LaneReplies, StepAnswer};
-use flt_queue::{Job, QueueLock, QueueReply, QueueSeat, WAITING};
+use flt_queue::{Job, QueueKind, QueueLock, QueueSeat, WAITING};
 use flt_store::Store;
 use std::sync::Wait;
 
@@ -47,13 +47,15 @@ fn write_job<R: Wait, B: Blocks + Drop>(
     written
 }
 
-/// Takes the next job, writes it, and notes what became of it: whether it was written, or nothing where no job waits.
+/// Takes the next job, writes it, and notes what became of it: whether it was written, or nothing where no job waits. The job is
+/// written in place of what `job` holds.
 fn take_job<R: Wait, B: Blocks + Drop>(
     rt: &R,
     queue: &QueueLock,
     store: &mut Store<B>,
     config: &ValidConfig,
     seat: &mut QueueSeat,
+    job: &mut Job,
 ) -> Option<bool>
     requires ready { CanDrain queue.now config.now seat.old }
     requires alive { IsAlive config.now store.old }
@@ -61,11 +63,11 @@ fn take_job<R: Wait, B: Blocks + Drop>(
     ensures looks { LooksForJob config.now seat.old seat.new result store.old store.new }
     ensures lock { turn.IsSeatOf queue.now.turn seat.new }
 {
-    let Ok(taken) = queue.take(rt, seat) else {
+    let Ok(taken) = queue.take(rt, seat, job) else {
         unreachable!()
     };
-    match &taken.reply {
-        QueueReply::Job(job) => Some(write_job(rt, queue, store, seat, job)),
+    match taken.reply {
+        QueueKind::Job(()) => Some(write_job(rt, queue, store, seat, job)),
         _ => None,
     }
 }
@@ -86,10 +88,11 @@ pub(crate) fn drain<R: Wait, B: Blocks + Drop>(
     ensures takes { (dem : Seat) → TakesStep config.now dem dem seat.old seat.new steps.Drain replies.old replies.new store.old store.new }
     ensures lock { turn.IsSeatOf queue.now.turn seat.new }
 {
+    let mut job = Job::room();
     let mut written: u16 = 0;
     let mut failed: u16 = 0;
     for _job in 0..WAITING {
-        let Some(was_written) = take_job(rt, queue, store, config, seat) else {
+        let Some(was_written) = take_job(rt, queue, store, config, seat, &mut job) else {
             replies.keep(StepAnswer::Drained { written, failed }, &[]);
             return;
         };

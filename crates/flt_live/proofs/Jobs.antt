@@ -5,8 +5,8 @@ use Rattle.flt_config.specs.declared.config.Config.{Config}
 use Rattle.flt_flash.specs.declared.blocks.Blocks.{Ghosts}
 use Rattle.flt_queue.specs.declared.job.Job.{Job}
 use Rattle.flt_queue.specs.declared.job.QueueOp.TheVariants as ops
-use Rattle.flt_queue.specs.declared.job.QueueReply.{QueueReply}
-use Rattle.flt_queue.specs.declared.job.QueueReply.TheVariants as replies
+use Rattle.flt_queue.specs.Reply.{QueueReply}
+use Rattle.flt_queue.specs.declared.job.QueueReplyOf.TheVariants as replies
 use Rattle.flt_queue.specs.declared.queue.JobQueue.{JobQueue}
 use Rattle.flt_queue.specs.Queue.{History, handed_out}
 use Rattle.flt_queue.specs.Stands.{Stands}

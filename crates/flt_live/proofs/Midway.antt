@@ -14,7 +14,7 @@ use Rattle.flt_store_model.specs.Holding.{Generation, SameApplications}
 use Rattle.flt_store_model.specs.Layout.{applications, application_number}
 use Rattle.flt_dcm.specs.Unit.{Stands, UnitView}
 use Rattle.flt_queue.specs.declared.job.QueueOp.{QueueOp}
-use Rattle.flt_queue.specs.declared.job.QueueReply.{QueueReply}
+use Rattle.flt_queue.specs.Reply.{QueueReply}
 use Rattle.flt_queue.specs.declared.queue.JobQueue.{JobQueue}
 use Rattle.flt_queue.specs.Queue.{History, answer_q}
 use Rattle.flt_queue.specs.Stands as standing

@@ -27,7 +27,7 @@ use flt_flash::Blocks;
 use flt_life_model::{Action, Answer, StepAnswer};
 use flt_lives::Buffers;
 use flt_model::Op;
-use flt_queue::{Job, JobQueue, QueueOp, QueueReply, WAITING};
+use flt_queue::{Job, JobQueue, QueueKind, QueueOp, WAITING};
 use flt_store::Store;
 
 /// Takes the durable state.
@@ -113,11 +113,13 @@ fn write_job<D: Blocks + Drop>(
     written
 }
 
-/// Takes the next job, writes it, and notes what became of it: whether it was written, or nothing where no job waits.
+/// Takes the next job, writes it, and notes what became of it: whether it was written, or nothing where no job waits. The job is
+/// written in place of what `job` holds.
 fn take_job<D: Blocks + Drop>(
     queue: &mut JobQueue,
     store: &mut Store<D>,
     config: &ValidConfig,
+    job: &mut Job,
 ) -> Option<bool>
     requires blocks { queue.old.blocks ≡ config.now.blocks }
     requires alive { IsAlive config.now store.old }
@@ -127,8 +129,8 @@ fn take_job<D: Blocks + Drop>(
     ensures taken { (jobs : History) → queued.Stands config.now.blocks jobs queue.old
         → IsJobTaken config.now jobs result queue.new store.old store.new }
 {
-    match queue.apply(&QueueOp::Take) {
-        QueueReply::Job(job) => Some(write_job(queue, store, config, &job)),
+    match queue.apply_into(&QueueOp::Take, job) {
+        QueueKind::Job(()) => Some(write_job(queue, store, config, job)),
         _ => None,
     }
 }
@@ -147,10 +149,11 @@ fn drain<D: Blocks + Drop>(
     ensures drained { (jobs : History) → queued.Stands config.now.blocks jobs queue.old
         → HasDrained config.now jobs result.0 result.1 queue.new store.old store.new }
 {
+    let mut job = Job::room();
     let mut written: u16 = 0;
     let mut failed: u16 = 0;
     for _job in 0..WAITING {
-        let Some(was_written) = take_job(queue, store, config) else {
+        let Some(was_written) = take_job(queue, store, config, &mut job) else {
             return (written, failed);
         };
         written += u16::from(was_written);

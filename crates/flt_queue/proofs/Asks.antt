@@ -6,7 +6,7 @@ use Rattle.flt_queue.specs.declared.job.Job.{Job}
 use Rattle.flt_queue.specs.declared.job.LastResult.{LastResult}
 use Rattle.flt_queue.specs.declared.job.LastResult.TheVariants.{Pending}
 use Rattle.flt_queue.specs.declared.job.QueueOp.TheVariants as ops
-use Rattle.flt_queue.specs.declared.job.QueueReply.TheVariants as replies
+use Rattle.flt_queue.specs.declared.job.QueueReplyOf.TheVariants as replies
 use Rattle.flt_queue.specs.Queue.{History, waiting, pending, taken, last_of, result_of, answer_q}
 use Rattle.flt_queue.specs.Stands.{jobs}
 use Rattle.flt_queue.specs.Laws.{accepted, handed, many, told_by, told_of, AskTellsLast, PostIsAnswered, PostsAreAnswered}

@@ -2,7 +2,7 @@
 use Rattle.std.proofs.Common.{rules, ◌≡◌, ℕ, ◌+◌, if◌then◌else◌, nat_lt, nat_eq, Bool, true, false, refl, length, arith, Some, None, Option, [], ◌∷◌, ◌++◌, List}
 use Rattle.flt_queue.specs.declared.job.Job.{Job}
 use Rattle.flt_queue.specs.declared.job.QueueOp.TheVariants as ops
-use Rattle.flt_queue.specs.declared.job.QueueReply.TheVariants as replies
+use Rattle.flt_queue.specs.declared.job.QueueReplyOf.TheVariants as replies
 use Rattle.flt_queue.specs.Queue.{History, Posted, posted, waiting, pending, taken, is_of, earliest, some_urgent, without_earliest, next_of, handed_out}
 use Rattle.flt_queue.specs.Laws.{one_if, many_of, is_due, OneOfABlock, HandedOutIsDue}
 

@@ -3,11 +3,12 @@ use Rattle.std.proofs.Common.{◌≡◌, ℕ, ◌<◌, ◌-◌, nat_lt, Bool, tr
 use Rattle.std.proofs.lemmas.Bool.{cond_both}
 use Rattle.std.proofs.lemmas.List.{length-reverse, get_or-reverse}
 use Rattle.std.proofs.lemmas.List.Elements.{All-nil, All-cons, All-head, All-tail, All-push, All-take, All-map}
+use Rattle.flt_queue.specs.declared.job.Job.{Job}
 use Rattle.flt_queue.specs.declared.job.QueueOp.{QueueOp}
 use Rattle.flt_queue.specs.declared.job.QueueOp.TheVariants as ops
-use Rattle.flt_queue.specs.declared.job.QueueReply.{QueueReply}
+use Rattle.flt_queue.specs.Reply.{QueueKind, reply_with}
 use Rattle.flt_queue.specs.Queue.{History, Posted, posted, IsJob, IsAdmitted, IsFor, waiting, pending, some_urgent, earliest, without_earliest, handed_out}
-use Rattle.flt_queue.specs.Call.{Seat, IsCall}
+use Rattle.flt_queue.specs.Call.{Seat, IsCall, whole}
 use Rattle.flt_turn.specs.Call.{past}
 use Rattle.flt_turn.specs.declared.answer.Answer.{Answer}
 use Rattle.flt_turn.specs.declared.answer.HistoryFull.{HistoryFull}
@@ -56,9 +57,9 @@ reverse_all P xs all = λ k d lt.
     rw (get_or-reverse xs k d within) (all (length xs - 1 - k) d (omega (arith, within)))
 
 -- What a call of a lock that takes a job is answered.
-pub take_for : (before after : Seat) (told : Result (Answer QueueReply) (HistoryFull QueueOp)) → IfOk told (IsCall before after ops.Take) → IfOk told (λ told. IsFor before.start told.reply)
-take_for before after (Ok told) call =
+pub take_for : (before after : Seat) (job : Job) (told : Result (Answer QueueKind) (HistoryFull QueueOp)) → IfOk told (λ told. IsCall before after ops.Take (whole told job)) → IfOk told (λ told. IsFor before.start (reply_with told.reply job))
+take_for before after job (Ok told) call =
     let ops_all : All (IsAdmitted before.start) (ops_before told.place after.seen) = All-map (IsAdmitted before.start) (λ entry. entry.op) _ (All-take (λ entry. IsAdmitted before.start entry.op) told.place after.seen call.admitted) in
     let calls_all : All (IsAdmitted before.start) (past told.place after.seen) = reverse_all (IsAdmitted before.start) (ops_before told.place after.seen) ops_all in
     rw call.reply (earliest_for before.start (some_urgent (waiting (past told.place after.seen))) (waiting (past told.place after.seen)) (waiting_for before.start (past told.place after.seen) calls_all))
-take_for before after (Err full) call = tt
+take_for before after job (Err full) call = tt

@@ -1,3 +1,4 @@
+pub mod Reply
 pub mod Queue
 pub mod Stands
 pub mod Call

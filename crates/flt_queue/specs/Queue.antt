@@ -5,8 +5,8 @@ use Rattle.flt_queue.specs.declared.job.LastResult.{LastResult}
 use Rattle.flt_queue.specs.declared.job.LastResult.TheVariants.{Never, Pending, Written, Failed}
 use Rattle.flt_queue.specs.declared.job.QueueOp.{QueueOp}
 use Rattle.flt_queue.specs.declared.job.QueueOp.TheVariants as ops
-use Rattle.flt_queue.specs.declared.job.QueueReply.{QueueReply}
-use Rattle.flt_queue.specs.declared.job.QueueReply.TheVariants as replies
+use Rattle.flt_queue.specs.Reply.{QueueKind, QueueReply, reply_with}
+use Rattle.flt_queue.specs.declared.job.QueueReplyOf.TheVariants as replies
 
 -- The calls since the queue was made, the newest first.
 abbrev pub History : Type 0
@@ -126,3 +126,7 @@ IsFor blocks replies.NoJob = Unit {0}
 IsFor blocks replies.Noted = Unit {0}
 IsFor blocks replies.NotTaken = Unit {0}
 IsFor blocks (replies.Last last) = Unit {0}
+
+-- So it is in the answer of this kind, whichever job stands beside it.
+abbrev pub IsForAlone : ℕ → QueueKind → Type 0
+IsForAlone blocks kind = (job : Job) → IsFor blocks (reply_with kind job)

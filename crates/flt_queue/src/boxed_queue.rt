@@ -2,11 +2,12 @@
 ghost use Rattle.std.specs.Prelude.{reverse};
 ghost use Rattle.flt_queue.specs.Call.{reply_after};
 ghost use Rattle.flt_queue.specs.Queue.{IsAdmitted};
+ghost use Rattle.flt_queue.specs.Reply.{reply_with};
 ghost use Rattle.flt_queue.specs.Stands.{Stands};
 
-use crate::job::{QueueOp, QueueReply};
+use crate::job::{Job, QueueKind, QueueOp, QueueReply};
 use crate::queue::JobQueue;
-use flt_turn::{Machine, Stepper};
+use flt_turn::{Machine, StepInto, Stepper};
 
 /// The queue of write jobs. It is boxed, since it goes out of the lock's slot and back with each call.
 #[derive(Drop)]
@@ -44,5 +45,18 @@ impl Stepper for BoxedQueue {
     #[inline(always)]
     fn step(&mut self, _context: &(), op: &QueueOp, _out: &mut ()) -> QueueReply {
         self.queue.apply(op)
+    }
+}
+
+impl StepInto for BoxedQueue {
+    type Kind = QueueKind;
+
+    type Payload = Job;
+
+    ghost reply_with = { λ kind job. reply_with kind job };
+
+    #[inline(always)]
+    fn step_into(&mut self, _context: &(), op: &QueueOp, job: &mut Job) -> QueueKind {
+        self.queue.apply_into(op, job)
     }
 }

@@ -18,6 +18,21 @@ pub struct Job {
     pub bytes: ArrayVec<u8, BYTES>,
 }
 
+impl Job {
+    ghost use Rattle.std.specs.Prelude.{◌≡◌, []};
+
+    /// A job of no bytes: a place to lend to calls that write a job.
+    #[inline(always)]
+    pub fn room() -> Job
+        ensures { result.bytes.items ≡ [] }
+    {
+        Job {
+            block: 0,
+            bytes: ArrayVec::new(),
+        }
+    }
+}
+
 /// What became of the last job of a block (AUTOSAR NvM, in outline).
 #[derive(Clone, Copy, PartialEq, Eq, Debug)]
 pub enum LastResult {
@@ -42,9 +57,9 @@ pub enum QueueOp {
     Ask { block: u8 },
 }
 
-/// What the queue answers.
-#[derive(Clone, Drop, PartialEq, Eq, Debug)]
-pub enum QueueReply {
+/// What the queue answers, in which a job that was taken is a `J`.
+#[derive(Clone, Copy, Drop, PartialEq, Eq, Debug)]
+pub enum QueueReplyOf<J> {
     /// The job waits until it is taken.
     Accepted,
     /// The block has a job that is not done. Nothing was changed.
@@ -52,7 +67,7 @@ pub enum QueueReply {
     /// 32 jobs wait. Nothing was changed.
     QueueFull,
     /// The job that was taken.
-    Job(Job),
+    Job(J),
     /// No job waits.
     NoJob,
     /// The result is noted.
@@ -61,3 +76,31 @@ pub enum QueueReply {
     NotTaken,
     Last(LastResult),
 }
+
+impl<J: Drop> QueueReplyOf<J> {
+    ghost use Rattle.std.specs.Prelude.{◌≡◌};
+    ghost use Rattle.flt_queue.specs.Reply.{reply_with};
+
+    /// The same answer, in which a job that was taken is this one.
+    #[inline(always)]
+    pub fn with<K: Drop>(self, job: K) -> QueueReplyOf<K>
+        ensures { result ≡ reply_with self job }
+    {
+        match self {
+            QueueReplyOf::Accepted => QueueReplyOf::Accepted,
+            QueueReplyOf::BlockPending => QueueReplyOf::BlockPending,
+            QueueReplyOf::QueueFull => QueueReplyOf::QueueFull,
+            QueueReplyOf::Job(_) => QueueReplyOf::Job(job),
+            QueueReplyOf::NoJob => QueueReplyOf::NoJob,
+            QueueReplyOf::Noted => QueueReplyOf::Noted,
+            QueueReplyOf::NotTaken => QueueReplyOf::NotTaken,
+            QueueReplyOf::Last(last) => QueueReplyOf::Last(last),
+        }
+    }
+}
+
+/// What the queue answers, with the job that was taken.
+pub type QueueReply = QueueReplyOf<Job>;
+
+/// What the queue answers, where the job that was taken stands elsewhere. It is small, so that it costs little to move.
+pub type QueueKind = QueueReplyOf<()>;

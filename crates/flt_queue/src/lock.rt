@@ -1,15 +1,16 @@
 //! The queue under the ticket lock.
-ghost use Rattle.std.specs.Prelude.{◌≡◌, ◌<◌, ◌≤◌, ◌+◌, ◌^◌, ◌∷◌, IfOk, All, length, reverse};
+ghost use Rattle.std.specs.Prelude.{◌≡◌, ◌<◌, ◌≤◌, ◌+◌, ◌^◌, ◌∷◌, IfOk, OnErr, All, length, reverse};
 ghost use mathlib.Core.List.{IsPrefix};
 ghost use Rattle.flt_queue.specs.declared.job.QueueOp.TheVariants as ops;
 ghost use Rattle.flt_queue.specs.Queue.{IsAdmitted, IsFor, IsJob};
 ghost use Rattle.flt_queue.specs.Stands.{Stands};
-ghost use Rattle.flt_queue.specs.Call.{Calls};
+ghost use Rattle.flt_queue.specs.Call.{Calls, CallsAlone, CallsInto};
+ghost use Rattle.flt_queue.specs.Reply.{reply_with};
 ghost use Rattle.flt_turn.specs.Journal.{Interleaves, ops_of};
 ghost use Rattle.flt_turn.specs.Seats.{IsSeatOf, main_seat, split_off, split_seat, joined_seat};
 
 use crate::boxed_queue::BoxedQueue;
-use crate::job::{Job, QueueOp, QueueReply};
+use crate::job::{Job, QueueKind, QueueOp, QueueReply};
 use crate::queue::JobQueue;
 use flt_turn::{Answer, Entry, HistoryFull, Seat, Turn, Vault};
 use std::alloc::{AllocError, Global};
@@ -20,6 +21,9 @@ pub type QueueSeat = Seat<BoxedQueue>;
 
 /// What a call was told, or that no call was left to its seat.
 pub type QueueAnswer = Result<Answer<QueueReply>, HistoryFull<QueueOp>>;
+
+/// The same without the job that was taken, which stands elsewhere.
+pub type QueueTold = Result<Answer<QueueKind>, HistoryFull<QueueOp>>;
 
 /// What a lock leaves when it ends.
 #[derive(Drop)]
@@ -52,14 +56,37 @@ impl QueueLock {
         Ok((QueueLock { turn }, seat))
     }
 
-    /// Makes a call when its turn comes.
+    /// Makes a call when its turn comes. The answer has only the kind of the reply, and a job that is taken is written in place of what
+    /// `job` holds, so that no reply of a job's size is moved.
+    #[inline(always)]
+    pub fn call_into<R: Wait>(
+        &self,
+        rt: &R,
+        seat: &mut QueueSeat,
+        op: QueueOp,
+        job: &mut Job,
+    ) -> QueueTold
+        requires lock { IsSeatOf self.now.turn seat.old }
+        requires admitted { IsAdmitted seat.old.start op }
+        ensures call { CallsInto seat.old seat.new op job.new result }
+        ensures kept { OnErr result (job.new ≡ job.old) }
+    {
+        self.turn.call_into(rt, seat, &(), op, job)
+    }
+
+    /// Makes a call as `call_into` does, with the job that was taken in the answer.
     #[inline(always)]
     pub fn call<R: Wait>(&self, rt: &R, seat: &mut QueueSeat, op: QueueOp) -> QueueAnswer
         requires lock { IsSeatOf self.now.turn seat.old }
         requires admitted { IsAdmitted seat.old.start op }
         ensures { Calls seat.old seat.new op result }
     {
-        self.turn.call(rt, seat, &(), op, &mut ())
+        let mut job = Job::room();
+        let Answer { place, reply } = self.call_into(rt, seat, op, &mut job)?;
+        Ok(Answer {
+            place,
+            reply: reply.with(job),
+        })
     }
 
     /// Posts a job, of 1 to 32 bytes for a block of the queue.
@@ -71,28 +98,26 @@ impl QueueLock {
         self.call(rt, seat, QueueOp::Post { urgent, job })
     }
 
-    /// Takes the next job, which is one of 1 to 32 bytes for a block of the queue.
-    pub fn take<R: Wait>(&self, rt: &R, seat: &mut QueueSeat) -> QueueAnswer
+    /// Takes the next job, and writes it in place of what `job` holds: it is one of 1 to 32 bytes for a block of the queue.
+    #[inline(always)]
+    pub fn take<R: Wait>(&self, rt: &R, seat: &mut QueueSeat, job: &mut Job) -> QueueTold
         requires lock { IsSeatOf self.now.turn seat.old }
-        ensures call { Calls seat.old seat.new ops.Take result }
-        ensures job { IfOk result (λ told. IsFor seat.old.start told.reply) }
+        ensures call { CallsInto seat.old seat.new ops.Take job.new result }
+        ensures job { IfOk result (λ told. IsFor seat.old.start (reply_with told.reply job.new)) }
+        ensures kept { OnErr result (job.new ≡ job.old) }
     {
-        self.call(rt, seat, QueueOp::Take)
+        self.call_into(rt, seat, QueueOp::Take, job)
     }
 
     /// Notes what became of the job of a block that was taken.
-    pub fn done<R: Wait>(
-        &self,
-        rt: &R,
-        seat: &mut QueueSeat,
-        block: u8,
-        written: bool,
-    ) -> QueueAnswer
+    #[inline(always)]
+    pub fn done<R: Wait>(&self, rt: &R, seat: &mut QueueSeat, block: u8, written: bool) -> QueueTold
         requires lock { IsSeatOf self.now.turn seat.old }
         requires block { block < seat.old.start }
-        ensures { Calls seat.old seat.new (ops.Done block written) result }
+        ensures { CallsAlone seat.old seat.new (ops.Done block written) result }
     {
-        self.call(rt, seat, QueueOp::Done { block, written })
+        let mut none = Job::room();
+        self.call_into(rt, seat, QueueOp::Done { block, written }, &mut none)
     }
 
     /// Asks a block for its last result.

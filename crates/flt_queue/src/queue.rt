@@ -1,10 +1,11 @@
 //! The queue itself: two lists of jobs, and a table of the blocks.
 ghost use Rattle.std.specs.Prelude.{◌≡◌, ◌≤◌, ◌<◌, ◌∷◌, ◌++◌, [], ℕ, All, IfOk, length, reverse};
 ghost use Rattle.circular_buffer.specs.Buffer.{buffer};
-ghost use Rattle.flt_queue.specs.Queue.{History, IsAdmitted, IsFor, IsJob, answer_q, result_of as result_is};
+ghost use Rattle.flt_queue.specs.Queue.{History, IsAdmitted, IsFor, IsForAlone, IsJob, answer_q, result_of as result_is};
+ghost use Rattle.flt_queue.specs.Reply.{MakesAlone, reply_with};
 ghost use Rattle.flt_queue.specs.declared.job.QueueOp.TheVariants as ops;
 
-use crate::job::{BLOCKS, Job, LastResult, QueueOp, QueueReply, WAITING};
+use crate::job::{BLOCKS, Job, LastResult, QueueKind, QueueOp, QueueReply, WAITING};
 use circular_buffer::HeapCircularBuffer;
 use std::alloc::{AllocError, Global};
 
@@ -108,28 +109,42 @@ impl JobQueue {
         ensures answer { (past : History) → Stands self.old.blocks past self.old → result ≡ answer_q past op.now }
         ensures job { IsFor self.old.blocks result }
     {
+        let mut job = Job::room();
+        self.apply_into(op, &mut job).with(job)
+    }
+
+    /// Carries out a call as `apply` does. The answer has only the kind of the reply, and a job that is taken is written in place of
+    /// what `job` holds, so that no reply of a job's size is moved. Any other call leaves `job` as it is.
+    #[inline(always)]
+    pub fn apply_into(&mut self, op: &QueueOp, job: &mut Job) -> QueueKind
+        requires admitted { IsAdmitted self.old.blocks op.now }
+        ensures blocks { self.new.blocks ≡ self.old.blocks }
+        ensures stands { (past : History) → Stands self.old.blocks past self.old → Stands self.old.blocks (op.now ∷ past) self.new }
+        ensures answer { (past : History) → Stands self.old.blocks past self.old → reply_with result job.new ≡ answer_q past op.now }
+        ensures job { IsFor self.old.blocks (reply_with result job.new) }
+    {
         match op {
             QueueOp::Post { urgent, job } => self.post(*urgent, job),
-            QueueOp::Take => self.take(),
+            QueueOp::Take => self.take(job),
             QueueOp::Done { block, written } => self.done(*block, *written),
             QueueOp::Ask { block } => self.ask(*block),
         }
     }
 
     #[inline(always)]
-    fn post(&mut self, urgent: bool, job: &Job) -> QueueReply
+    fn post(&mut self, urgent: bool, job: &Job) -> QueueKind
         requires { IsJob self.old.blocks job.now }
         ensures blocks { self.new.blocks ≡ self.old.blocks }
         ensures stands { (past : History) → Stands self.old.blocks past self.old → Stands self.old.blocks (ops.Post urgent job.now ∷ past) self.new }
-        ensures answer { (past : History) → Stands self.old.blocks past self.old → result ≡ answer_q past (ops.Post urgent job.now) }
-        ensures job { IsFor self.old.blocks result }
+        ensures answer { (past : History) → Stands self.old.blocks past self.old → MakesAlone result (answer_q past (ops.Post urgent job.now)) }
+        ensures job { IsForAlone self.old.blocks result }
     {
         let block = job.block as usize;
         if self.table[block].pending {
-            return QueueReply::BlockPending;
+            return QueueKind::BlockPending;
         }
         if self.urgent.len() + self.standard.len() >= WAITING {
-            return QueueReply::QueueFull;
+            return QueueKind::QueueFull;
         }
         if urgent {
             put_last(&mut self.urgent, copy_of(job));
@@ -137,58 +152,58 @@ impl JobQueue {
             put_last(&mut self.standard, copy_of(job));
         }
         self.table[block].pending = true;
-        QueueReply::Accepted
+        QueueKind::Accepted
     }
 
     #[inline(always)]
-    fn take(&mut self) -> QueueReply
+    fn take(&mut self, job: &mut Job) -> QueueKind
         ensures blocks { self.new.blocks ≡ self.old.blocks }
         ensures stands { (past : History) → Stands self.old.blocks past self.old → Stands self.old.blocks (ops.Take ∷ past) self.new }
-        ensures answer { (past : History) → Stands self.old.blocks past self.old → result ≡ answer_q past ops.Take }
-        ensures job { IsFor self.old.blocks result }
+        ensures answer { (past : History) → Stands self.old.blocks past self.old → reply_with result job.new ≡ answer_q past ops.Take }
+        ensures job { IsFor self.old.blocks (reply_with result job.new) }
     {
-        let job = if !self.urgent.is_empty() {
-            take_first(&mut self.urgent)
+        if !self.urgent.is_empty() {
+            *job = take_first(&mut self.urgent);
         } else if !self.standard.is_empty() {
-            take_first(&mut self.standard)
+            *job = take_first(&mut self.standard);
         } else {
-            return QueueReply::NoJob;
-        };
+            return QueueKind::NoJob;
+        }
         self.table[job.block as usize].taken = true;
-        QueueReply::Job(job)
+        QueueKind::Job(())
     }
 
     #[inline(always)]
-    fn done(&mut self, block: u8, written: bool) -> QueueReply
+    fn done(&mut self, block: u8, written: bool) -> QueueKind
         requires { block < self.old.blocks }
         ensures blocks { self.new.blocks ≡ self.old.blocks }
         ensures stands { (past : History) → Stands self.old.blocks past self.old → Stands self.old.blocks (ops.Done block written ∷ past) self.new }
-        ensures answer { (past : History) → Stands self.old.blocks past self.old → result ≡ answer_q past (ops.Done block written) }
-        ensures job { IsFor self.old.blocks result }
+        ensures answer { (past : History) → Stands self.old.blocks past self.old → MakesAlone result (answer_q past (ops.Done block written)) }
+        ensures job { IsForAlone self.old.blocks result }
     {
         if !self.table[block as usize].taken {
-            return QueueReply::NotTaken;
+            return QueueKind::NotTaken;
         }
         self.table[block as usize] = BlockState {
             pending: false,
             taken: false,
             last: result_of(written),
         };
-        QueueReply::Noted
+        QueueKind::Noted
     }
 
     #[inline(always)]
-    fn ask(&self, block: u8) -> QueueReply
+    fn ask(&self, block: u8) -> QueueKind
         requires { block < self.now.blocks }
         ensures stands { (past : History) → Stands self.now.blocks past self.now → Stands self.now.blocks (ops.Ask block ∷ past) self.now }
-        ensures answer { (past : History) → Stands self.now.blocks past self.now → result ≡ answer_q past (ops.Ask block) }
-        ensures job { IsFor self.now.blocks result }
+        ensures answer { (past : History) → Stands self.now.blocks past self.now → MakesAlone result (answer_q past (ops.Ask block)) }
+        ensures job { IsForAlone self.now.blocks result }
     {
         let state = &self.table[block as usize];
         if state.pending {
-            QueueReply::Last(LastResult::Pending)
+            QueueKind::Last(LastResult::Pending)
         } else {
-            QueueReply::Last(state.last)
+            QueueKind::Last(state.last)
         }
     }
 }

@@ -8,8 +8,8 @@ use Rattle.flt_model.specs.Reply.{Reply}
 use Rattle.flt_model.specs.declared.call.ReplyOf.TheVariants.{Taken, Ignored, Shown, Response, Silent}
 use Rattle.flt_queue.specs.declared.job.LastResult.{LastResult}
 use Rattle.flt_queue.specs.declared.job.LastResult.TheVariants.{Never, Pending, Written, Failed}
-use Rattle.flt_queue.specs.declared.job.QueueReply.{QueueReply}
-use Rattle.flt_queue.specs.declared.job.QueueReply.TheVariants.{Accepted, BlockPending, QueueFull, Last}
+use Rattle.flt_queue.specs.Reply.{QueueReply}
+use Rattle.flt_queue.specs.declared.job.QueueReplyOf.TheVariants.{Accepted, BlockPending, QueueFull, Last}
 use Rattle.flt_store.specs.declared.fault.SaveFault.{SaveFault}
 use Rattle.flt_store.specs.declared.fault.SaveFault.TheVariants.{Flash, Spent, SequenceSpent}
 use Rattle.flt_step.specs.Words.{two_digits, bytes_text, step_text}

@@ -9,7 +9,7 @@ use Rattle.flt_model.specs.declared.call.Op.{Op}
 use Rattle.flt_model.specs.declared.call.Op.TheVariants as ops
 use Rattle.flt_model.specs.Reply.{Reply}
 use Rattle.flt_queue.specs.declared.job.QueueOp.{QueueOp}
-use Rattle.flt_queue.specs.declared.job.QueueReply.{QueueReply}
+use Rattle.flt_queue.specs.Reply.{QueueReply}
 use Rattle.flt_step.specs.Part.{PartOf}
 use Rattle.flt_step.specs.declared.step.Step.{Step}
 use Rattle.flt_turn.proofs.Journals.{calls_of-append}

@@ -1,8 +1,9 @@
-use Rattle.std.proofs.Common.{◌≡◌, ◌<◌, true, Ok, Err, subst, sym}
+use Rattle.std.proofs.Common.{◌≡◌, ◌<◌, ◌∙◌, true, Ok, Err, subst, sym}
 use Rattle.std.specs.Prelude.{OnOk, is_ok}
 use Rattle.std.specs.declared.result.Result.{Result}
 use Rattle.std.proofs.lemmas.Bool.{false≢true}
 use Rattle.flt_flash.specs.Content.{bytes as holding}
+use Rattle.flt_queue.specs.Call.{whole}
 use Rattle.flt_store_model.specs.Layout.{application_number}
 use Rattle.flt_nvm.specs.Leaves.{IsEither}
 use Rattle.flt_store.specs.Store.{driver_of}
@@ -39,3 +40,9 @@ returns-clause-wrote g c = λ config same.
       follows = c.put_block.ensures.follows;
     } in
     subst (λ w. WritesJob config job w c.args.store.now c.put_block.new.self) (sym c.is_ok-written.ensures.value) put
+
+pub returns-clause-noted : goal.returns-clause-noted
+returns-clause-noted g c = (whole c.in-Ok._noted c.args.job.now, c.in-Ok.ensures.call c.args.job.now)
+
+pub returns-clause-lock : goal.returns-clause-lock
+returns-clause-lock g c = (c.in-Ok.ensures.call c.args.job.now).place.lock ∙ c.requires.lock

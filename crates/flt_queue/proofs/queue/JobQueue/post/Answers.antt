@@ -30,7 +30,7 @@ returns-then-len-ge-WAITING-clause-answer c = λ past s.
     let less : c.args.job.now.block < 40 = search rules in
     let here : slice_index_or c.args.self.now.table c.args.job.now.block resting ≡ state_of c.args.job.now.block past = s.table c.args.job.now.block resting less in
     let free : pending c.args.job.now.block past ≡ false = search rules in
-    rw (free, not_less) refl
+    λ job. rw (free, not_less) refl
 
 pub returns-clause-stands : goal.returns-clause-stands
 returns-clause-stands c = λ past s.
@@ -55,4 +55,4 @@ returns-clause-answer c = λ past s.
     let less : c.args.job.now.block < 40 = search rules in
     let here : slice_index_or c.args.self.now.table c.args.job.now.block resting ≡ state_of c.args.job.now.block past = s.table c.args.job.now.block resting less in
     let free : pending c.args.job.now.block past ≡ false = search rules in
-    rw (free, is_less) refl
+    λ job. rw (free, is_less) refl

@@ -1,0 +1,28 @@
+-- What the queue answers, whatever stands in it for a job that was taken.
+use Rattle.std.specs.Prelude.{◌≡◌}
+use Rattle.flt_queue.specs.declared.job.Job.{Job}
+use Rattle.flt_queue.specs.declared.job.QueueReplyOf.{QueueReplyOf}
+use Rattle.flt_queue.specs.declared.job.QueueReplyOf.TheVariants as replies
+
+-- The answer with the job that was taken.
+abbrev pub QueueReply : Type 0
+QueueReply = QueueReplyOf Job
+
+-- The answer whose job stands elsewhere.
+abbrev pub QueueKind : Type 0
+QueueKind = QueueReplyOf (Unit {0})
+
+-- The same answer, in which a job that was taken is this one.
+abbrev pub reply_with : {J K : Type 0} → QueueReplyOf J → K → QueueReplyOf K
+reply_with replies.Accepted job = replies.Accepted
+reply_with replies.BlockPending job = replies.BlockPending
+reply_with replies.QueueFull job = replies.QueueFull
+reply_with (replies.Job other) job = replies.Job job
+reply_with replies.NoJob job = replies.NoJob
+reply_with replies.Noted job = replies.Noted
+reply_with replies.NotTaken job = replies.NotTaken
+reply_with (replies.Last last) job = replies.Last last
+
+-- Whichever job stands beside it, the kind is this answer.
+abbrev pub MakesAlone : QueueKind → QueueReply → Type 0
+MakesAlone kind reply = (job : Job) → reply_with kind job ≡ reply
