@@ -1,4 +1,7 @@
 //! The answers to steps.
+ghost use Rattle.std.specs.Prelude.{◌≡◌, length};
+ghost use Rattle.flt_life_model.specs.Answers.{IsRangeWithin, bytes_in};
+
 use arrayvec::ArrayVec;
 use flt_model::ReplyOf;
 use flt_queue::{LastResult, QueueReply};
@@ -13,6 +16,18 @@ pub struct KeptResponse {
     pub from: u32,
     /// How many they are: 1 to 1,040 of a response to a tester, 1 to 32 of a block.
     pub length: u32,
+}
+
+impl KeptResponse {
+    /// These bytes, among those of the lane.
+    pub fn among(self, responses: &[u8]) -> &[u8]
+        requires { IsRangeWithin (length responses.now) self }
+        ensures bytes { result.now ≡ (bytes_in responses.now self).items }
+        ensures length { length result.now ≡ self.length }
+    {
+        let from = self.from as usize;
+        &responses[from..from + self.length as usize]
+    }
 }
 
 /// The reply to a call as a lane keeps it.

@@ -2,12 +2,12 @@
 ghost use Rattle.std.specs.Prelude.{◌≡◌, ◌≤◌, ◌+◌, ◌*◌, ◌++◌, ◌∷◌, [], ℕ, List, OnOk, OnErr, length, vec_len};
 ghost use Rattle.std.specs.Vec.{vec_capacity};
 ghost use Rattle.flt_dcm.specs.ReplyKind.{reply_with};
-ghost use Rattle.flt_life_model.specs.Answers.{IsRangeWithin, IsReplyWithin, IsAnswerWithin, bytes_in, reply_in, queue_reply_in, told_of};
+ghost use Rattle.flt_life_model.specs.Answers.{IsReplyWithin, IsAnswerWithin, reply_in, queue_reply_in, told_of};
 ghost use Rattle.flt_step.specs.Puts.{Puts};
 ghost use Rattle.flt_report.specs.Room.{reply_room, kept_room, answer_room};
 ghost use Rattle.flt_report.specs.Answer.{flag_text, shown_text, ignored_text, reply_text, save_fault_text, last_text, queue_text, drained_text, answer_text, answer_part};
 
-use flt_life_model::{Answer, KeptAnswer, KeptQueueReply, KeptReply, KeptResponse, StepAnswer};
+use flt_life_model::{Answer, KeptAnswer, KeptQueueReply, KeptReply, StepAnswer};
 use flt_model::{Cause, ReplyOf, Shown};
 use flt_queue::LastResult;
 use flt_step::{put_byte, put_bytes, put_number, put_signed, put_text};
@@ -139,16 +139,6 @@ fn put_beside<B>(reply: &ReplyOf<B>, response: &[u8], out: &mut Vec<u8>)
     }
 }
 
-/// The bytes that are kept among these.
-fn kept_in(kept: KeptResponse, responses: &[u8]) -> &[u8]
-    requires { IsRangeWithin (length responses.now) kept }
-    ensures bytes { result.now ≡ (bytes_in responses.now kept).items }
-    ensures length { length result.now ≡ kept.length }
-{
-    let from = kept.from as usize;
-    &responses[from..from + kept.length as usize]
-}
-
 /// The bytes of a response that is kept among these, and none of another reply.
 fn response_in(reply: KeptReply, responses: &[u8]) -> &[u8]
     requires { IsReplyWithin (length responses.now) reply }
@@ -156,7 +146,7 @@ fn response_in(reply: KeptReply, responses: &[u8]) -> &[u8]
     ensures room { reply_room reply result.now ≡ kept_room reply }
 {
     match reply {
-        ReplyOf::Response(kept) => kept_in(kept, responses),
+        ReplyOf::Response(kept) => kept.among(responses),
         _ => &[],
     }
 }
@@ -206,7 +196,7 @@ fn put_told(answer: &KeptAnswer, responses: &[u8], out: &mut Vec<u8>)
         StepAnswer::SaveFailed(fault) => put_save_fault(*fault, out),
         StepAnswer::Queue(told) => put_queue_reply(&told.reply, out),
         StepAnswer::Drained { written, failed } => put_drained(*written, *failed, out),
-        StepAnswer::Bytes(kept) => put_bytes(kept_in(*kept, responses), out),
+        StepAnswer::Bytes(kept) => put_bytes(kept.among(responses), out),
         StepAnswer::NoBlock => put_text(b"missing", out),
         StepAnswer::BlockFlash => put_text(b"flash", out),
         StepAnswer::Armed => put_text(b"armed", out),
