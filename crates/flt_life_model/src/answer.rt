@@ -79,5 +79,7 @@ pub enum StepAnswer<R, Q = QueueReply, B = ArrayVec<u8, APPLICATION_LENGTH>> {
     Dark,
 }
 
-/// The answer to a step as a lane keeps it.
+/// The answer to a step as a lane keeps it, in 20 bytes.
 pub type KeptAnswer = StepAnswer<KeptReply, KeptQueueReply, KeptResponse>;
+
+const _: () = prove!(size_of::<KeptAnswer>() == 20);
