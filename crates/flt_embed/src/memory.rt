@@ -6,7 +6,7 @@ ghost use Rattle.flt_dcm.specs.Unit.{IsAdmitted, Takes};
 ghost use Rattle.flt_did.specs.Serves.{Serves};
 ghost use Rattle.flt_did.specs.Table.{dids_of};
 ghost use Rattle.flt_life_model.specs.Actions.{action_of};
-ghost use Rattle.flt_life_model.specs.Answers.{Told, told_with};
+ghost use Rattle.flt_life_model.specs.Answers.{Told, byte_room, told_with};
 ghost use Rattle.flt_life_model.specs.declared.life.Boot.TheVariants.{Refused};
 ghost use Rattle.flt_queue.specs.Queue as jobs;
 ghost use Rattle.flt_report.specs.Answer.{step_line};
@@ -23,7 +23,7 @@ use flt_dem::Dem;
 use flt_did::{DID_ROWS, DidTable};
 use flt_life_model::{Action, Answer, Boot, LaneReplies, StepAnswer, action_of, are_possible};
 use flt_lives::Buffers;
-use flt_model::{Op, RESPONSE};
+use flt_model::{Op, RESPONSE, ReplyOf};
 use flt_queue::{JobQueue, QueueOp};
 use flt_report::{put_boot, put_step};
 use flt_step::{Part, Step};
@@ -66,7 +66,7 @@ pub struct Memory {
     ghost blocks: { queue.blocks ≡ config.blocks },
     ghost size: { length image.items ≡ 64 * config.pages },
     ghost answers: { 1 ≤ vec_capacity replies.answers },
-    ghost responses: { 1040 ≤ vec_capacity replies.responses },
+    ghost responses: { 1040 ≤ byte_room replies.responses },
 }
 
 /// The image of a flash of so many pages a sector: the bytes that are given, or blank ones.
@@ -143,7 +143,18 @@ impl Memory {
 
     /// The bytes of the response to the last call, if it was a request that has one.
     pub fn response(&self) -> &[u8] {
-        &self.replies.responses
+        match self.replies.answers.as_slice() {
+            [
+                StepAnswer::Dem(
+                    Answer {
+                        reply: ReplyOf::Response(kept),
+                        ..
+                    },
+                ),
+                ..
+            ] => kept.among(&self.replies.responses),
+            _ => &[],
+        }
     }
 
     /// What the caller is to do to its flash, in this order.

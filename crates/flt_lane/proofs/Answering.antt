@@ -5,15 +5,13 @@ use Rattle.std.specs.Vec.{vec_capacity}
 use Rattle.flt_flash.specs.declared.arm.Arm.{Arm}
 use Rattle.flt_flash.specs.declared.blocks.Blocks.{Ghosts}
 use Rattle.flt_config.specs.declared.config.Config.{Config}
-use Rattle.flt_dcm.specs.ReplyKind.{ReplyKind}
 use Rattle.flt_step.specs.Step.{is_lane_step}
 use Rattle.flt_step.specs.declared.step.Step.{Step}
 use Rattle.flt_shared.specs.Call.{Seat}
 use Rattle.flt_store.specs.declared.store.Store.{Store}
 use Rattle.flt_store.specs.Store.{driver_of}
 use Rattle.flt_life_model.specs.Actions.{action_of, response_size}
-use Rattle.flt_life_model.specs.Answers.{Told, response_length, told_size, told_with}
-use Rattle.flt_life_model.specs.declared.answer.StepAnswer.{StepAnswer}
+use Rattle.flt_life_model.specs.Answers.{GivenAnswer, Told, byte_room, response_length, told_size, told_with}
 use Rattle.flt_life_model.specs.declared.replies.LaneReplies.{LaneReplies}
 use Rattle.flt_life_model.specs.Going.{WereGiven}
 use Rattle.flt_life_model.specs.Ordered.{Deed, with_deed}
@@ -29,8 +27,8 @@ use Rattle.flt_lane.specs.Stored.{LeavesStore}
 use Rattle.flt_lane.proofs.OffStore.{carries_call, leaves_store, makes_no_arm}
 
 -- The response is in a buffer that is read as these bytes.
-pub keeps_with : (before after : LaneReplies) (step : Step) (answer : StepAnswer ReplyKind) (response bytes : List ℕ) → bytes ≡ response → told_in after ≡ told_in before ++ told_with bytes answer ∷ [] → vec_len after.answers ≡ vec_len before.answers + 1
-    → vec_capacity after.answers ≡ vec_capacity before.answers → vec_len after.responses ≡ vec_len before.responses + response_length answer bytes → vec_capacity before.responses ≤ vec_capacity after.responses
+pub keeps_with : (before after : LaneReplies) (step : Step) (answer : GivenAnswer) (response bytes : List ℕ) → bytes ≡ response → told_in after ≡ told_in before ++ told_with bytes answer ∷ [] → vec_len after.answers ≡ vec_len before.answers + 1
+    → vec_capacity after.answers ≡ vec_capacity before.answers → vec_len after.responses ≡ vec_len before.responses + response_length answer bytes → byte_room before.responses ≤ byte_room after.responses
     → told_size (told_with response answer) ≤ response_size (action_of step) → KeepsAnswer before after step (told_with response answer)
 keeps_with before after step answer response bytes same told len capacity responses bytes_room size =
     let responses_are : vec_len after.responses ≡ vec_len before.responses + told_size (told_with response answer) = responses ∙ ap (λ b. vec_len before.responses + response_length answer b) same in
@@ -45,8 +43,8 @@ keeps_with before after step answer response bytes same told len capacity respon
     }
 
 -- There is none.
-pub keeps : (before after : LaneReplies) (step : Step) (answer : StepAnswer ReplyKind) → told_in after ≡ told_in before ++ told_with [] answer ∷ [] → vec_len after.answers ≡ vec_len before.answers + 1
-    → vec_capacity after.answers ≡ vec_capacity before.answers → vec_len after.responses ≡ vec_len before.responses + response_length answer [] → vec_capacity before.responses ≤ vec_capacity after.responses
+pub keeps : (before after : LaneReplies) (step : Step) (answer : GivenAnswer) → told_in after ≡ told_in before ++ told_with [] answer ∷ [] → vec_len after.answers ≡ vec_len before.answers + 1
+    → vec_capacity after.answers ≡ vec_capacity before.answers → vec_len after.responses ≡ vec_len before.responses + response_length answer [] → byte_room before.responses ≤ byte_room after.responses
     → told_size (told_with [] answer) ≡ 0 → KeepsAnswer before after step (told_with [] answer)
 keeps before after step answer told len capacity responses bytes none = keeps_with before after step answer [] [] refl told len capacity responses bytes (omega (arith, none))
 

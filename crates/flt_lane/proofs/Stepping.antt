@@ -1,5 +1,5 @@
 -- What one step makes of its seats.
-use Rattle.std.proofs.Common.{◌≡◌, ℕ, ◌≤◌, ◌<◌, List, [], ◌∷◌, ◌++◌, length, arith, refl, sym, ap, subst, ◌∙◌}
+use Rattle.std.proofs.Common.{◌≡◌, ℕ, ◌≤◌, ◌<◌, List, [], ◌∷◌, ◌++◌, length, reverse, arith, refl, sym, ap, subst, ◌∙◌}
 use Rattle.std.proofs.lemmas.List.{append-nil}
 use Rattle.flt_config.specs.declared.config.Config.{Config}
 use Rattle.flt_config.specs.declared.persist.Persist.{Persist}
@@ -25,13 +25,14 @@ use Rattle.flt_store.specs.declared.fault.SaveFault.{SaveFault}
 use Rattle.flt_store.specs.declared.store.Store.{Store}
 use Rattle.flt_flash.specs.declared.blocks.Blocks.{Ghosts}
 use Rattle.flt_turn.specs.declared.answer.Answer.{Answer}
+use Rattle.flt_turn.specs.Seats.{ops_before}
 use Rattle.flt_shared.specs.Call.{Seat, IsCall, MayBeAsked, reply_after}
-use Rattle.flt_life_model.specs.Actions.{action_of, call_count, queue_count, response_size}
-use Rattle.flt_life_model.specs.Answers.{Told, reply_size}
+use Rattle.flt_life_model.specs.Actions.{IsPossible, action_of, call_count, queue_count, response_size}
+use Rattle.flt_life_model.specs.Answers.{Told, queue_reply_size, reply_size}
 use Rattle.flt_life_model.specs.Draining.{calls_for_all, take_at}
 use Rattle.flt_life_model.specs.Played.{ActionMakes, ActionQueues, StepMakes, StepQueues}
 use Rattle.flt_life_model.specs.declared.action.Action.TheVariants as action
-use Rattle.flt_life_model.proofs.Responses.{answer_size, size_most}
+use Rattle.flt_life_model.proofs.Responses.{answer_size, asked_size, size_most}
 use Rattle.flt_life_model.specs.declared.answer.StepAnswer.TheVariants as answers
 use Rattle.flt_fork.specs.Chain.{Chain}
 use Rattle.flt_lane.specs.Draining.{FindsNone, HasDrained}
@@ -86,6 +87,11 @@ size_of_answer start past op reply is most = let size = ap reply_size is ∙ ans
 
 pub size_of_told : (start : Start) (past : History) (op : Op) (kind : ReplyKind) (bytes : List ℕ) → reply_with kind bytes ≡ answer start past op → length bytes ≤ RESPONSE → reply_size (reply_with kind bytes) ≤ response_size (action.Call op)
 size_of_told start past op kind bytes is most = size_of_answer start past op (reply_with kind bytes) is (size_most kind bytes most)
+
+-- ---- no post and no question is answered with a job
+
+pub size_of_queued : (c : Config) (before after : QueueSeat) (op : QueueOp) (told : Answer QueueReply) → IsPossible c (action.Queue op) → queued.IsCall before after op told → queue_reply_size told.reply ≡ 0
+size_of_queued c before after op told possible call = ap queue_reply_size call.reply ∙ asked_size (reverse (ops_before told.place after.seen)) op possible.0
 
 -- ---- calls of the queue
 

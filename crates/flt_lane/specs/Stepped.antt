@@ -10,7 +10,7 @@ use Rattle.flt_life_model.specs.declared.action.Action.{Action}
 use Rattle.flt_life_model.specs.declared.action.Action.TheVariants.{Call, Queue}
 use Rattle.flt_life_model.specs.declared.replies.LaneReplies.{LaneReplies}
 use Rattle.flt_life_model.specs.Actions.{action_of, arm_count, arms_of, response_size}
-use Rattle.flt_life_model.specs.Answers.{Told}
+use Rattle.flt_life_model.specs.Answers.{Told, byte_room}
 use Rattle.flt_life_model.specs.Going.{GoesOn, WereGiven}
 use Rattle.flt_life_model.specs.Ordered.{Deed, with_deed}
 use Rattle.flt_life_model.specs.Room.{HasRoomForSteps, told_in}
@@ -27,7 +27,7 @@ IsLockCall _ = ⊥
 -- There is room for the answer to what a step does.
 pub record HasRoomFor (replies : LaneReplies) (action : Action) : Type 0 where
   pub answers : vec_len replies.answers + 1 ≤ vec_capacity replies.answers
-  pub responses : vec_len replies.responses + response_size action ≤ vec_capacity replies.responses
+  pub responses : vec_len replies.responses + response_size action ≤ byte_room replies.responses
 
 -- The answer was put behind those before it, and there is room for those to the later steps.
 pub record KeepsAnswer (before after : LaneReplies) (step : Step) (answer : Told) : Type 0 where

@@ -1,5 +1,5 @@
--- How many bytes of a response an answer has.
-use Rattle.std.proofs.Common.{◌≡◌, ◌≤◌, ℕ, List, length, refl, arith}
+-- How many bytes of a response an answer has, and of a job.
+use Rattle.std.proofs.Common.{◌≡◌, ◌≤◌, ℕ, Bool, true, false, if◌then◌else◌, nat_lt, List, length, refl, arith}
 use Rattle.std.specs.Prelude.{Option, Some, None}
 use Rattle.flt_dcm.specs.Unit.{IsTesterCall}
 use Rattle.flt_dcm.specs.ReplyKind.{ReplyKind, reply_with}
@@ -11,7 +11,12 @@ use Rattle.flt_model.specs.declared.call.Cause.{Cause}
 use Rattle.flt_model.specs.declared.call.Op.{Op}
 use Rattle.flt_model.specs.declared.call.Op.TheVariants as ops
 use Rattle.flt_model.specs.declared.call.ReplyOf.TheVariants as kinds
-use Rattle.flt_life_model.specs.Answers.{reply_size}
+use Rattle.flt_queue.specs.Queue as queue
+use Rattle.flt_queue.specs.declared.job.QueueOp.{QueueOp}
+use Rattle.flt_queue.specs.declared.job.QueueOp.TheVariants as queue_ops
+use Rattle.flt_queue.specs.declared.job.QueueReply.TheVariants as replies
+use Rattle.flt_life_model.specs.Actions.{IsQueueCall}
+use Rattle.flt_life_model.specs.Answers.{queue_reply_size, reply_size}
 
 -- A response has at most so many bytes.
 pub size_most : (kind : ReplyKind) (response : List ℕ) → length response ≤ RESPONSE → reply_size (reply_with kind response) ≤ RESPONSE
@@ -33,3 +38,15 @@ answer_size life past (ops.Cycle cycle) other = refl
 answer_size life past (ops.Show event) other = refl
 answer_size life past ops.Snapshot other = refl
 answer_size life past (ops.Saved number) other = refl
+
+-- No post and no question is answered with a job.
+post_size : (pends fits : Bool) → queue_reply_size (if pends then replies.BlockPending else (if fits then replies.Accepted else replies.QueueFull)) ≡ 0
+post_size true fits = refl
+post_size false true = refl
+post_size false false = refl
+
+pub asked_size : (past : queue.History) (op : QueueOp) → IsQueueCall op → queue_reply_size (queue.answer_q past op) ≡ 0
+asked_size past (queue_ops.Post urgent job) asked = post_size (queue.pending job.block past) (nat_lt (length (queue.waiting past)) 32)
+asked_size past queue_ops.Take asked = absurd asked
+asked_size past (queue_ops.Done block written) asked = absurd asked
+asked_size past (queue_ops.Ask block) asked = refl

@@ -85,7 +85,8 @@ queue_count (Queue op) = 1
 queue_count Drain = 64
 queue_count _ = 0
 
--- The number of bytes of the longest response to a step: a request has one.
+-- The number of bytes of the longest answer to a step: a request has a response, and a read of a block the bytes that it holds.
 abbrev pub response_size : Action → ℕ
 response_size (Call (ops.Request tester bytes)) = RESPONSE
+response_size (Get block) = 32
 response_size _ = 0

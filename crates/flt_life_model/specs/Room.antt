@@ -7,14 +7,14 @@ use Rattle.flt_life_model.specs.declared.replies.LaneReplies.{LaneReplies}
 use Rattle.flt_life_model.specs.declared.room.LaneRoom.{LaneRoom}
 use Rattle.flt_life_model.specs.declared.room.LifeRoom.{LifeRoom}
 use Rattle.flt_life_model.specs.Actions.{action_of, response_size}
-use Rattle.flt_life_model.specs.Answers.{Told, told_by}
+use Rattle.flt_life_model.specs.Answers.{Told, byte_room, told_by}
 use Rattle.flt_life_model.specs.Parts.{own_steps, lanes_in, widths}
 
 -- The answers that a lane has.
 abbrev pub told_in : LaneReplies → List Told
 told_in replies = told_by replies.responses.items replies.answers.items
 
--- The bytes of the longest responses to steps.
+-- The bytes of the longest answers to steps.
 abbrev pub sizes_of : List Step → ℕ
 sizes_of steps = sum_by response_size (map action_of steps)
 
@@ -26,7 +26,7 @@ pub record IsEmpty (replies : LaneReplies) : Type 0 where
 -- There is room for the answers to these steps.
 pub record HasRoomForSteps (replies : LaneReplies) (steps : List Step) : Type 0 where
   pub answers : vec_len replies.answers + length steps ≤ vec_capacity replies.answers
-  pub responses : vec_len replies.responses + sizes_of steps ≤ vec_capacity replies.responses
+  pub responses : vec_len replies.responses + sizes_of steps ≤ byte_room replies.responses
 
 -- A lane without answers, and with room for one to each of its steps.
 pub record IsLaneRoom (lane : LaneRoom) : Type 0 where

@@ -6,6 +6,7 @@ use flt_flash::Arm;
 use flt_model::{Op, RESPONSE};
 use flt_queue::{Job, QueueOp, WAITING};
 use flt_step::Step;
+use flt_store_model::APPLICATION_LENGTH;
 
 /// What a step of a life does.
 #[derive(Drop)]
@@ -94,12 +95,13 @@ pub fn queue_count(step: &Step) -> usize
     }
 }
 
-/// The number of bytes of the longest response to a step: a request has one.
+/// The number of bytes of the longest answer to a step: a request has a response, and a read of a block the bytes that it holds.
 pub fn response_size(step: &Step) -> usize
     ensures { result ≡ response_size (action_of step.now) }
 {
     match step {
         Step::Request { .. } => RESPONSE,
+        Step::Get { .. } => APPLICATION_LENGTH,
         _ => 0,
     }
 }

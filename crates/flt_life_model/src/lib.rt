@@ -20,7 +20,7 @@ mod room;
 pub mod worked;
 
 pub use action::{Action, action_of, call_count, queue_count, response_size};
-pub use answer::{KeptReply, KeptResponse, StepAnswer};
+pub use answer::{KeptAnswer, KeptQueueReply, KeptReply, KeptResponse, StepAnswer};
 pub use flt_turn::{Answer, Entry};
 pub use life::{Boot, Life};
 pub use possible::are_possible;

@@ -10,7 +10,7 @@ use Rattle.flt_dcm.specs.Unit.{UnitView}
 use Rattle.flt_queue.specs.declared.queue.JobQueue.{JobQueue}
 use Rattle.flt_store.specs.declared.store.Store.{Store}
 use Rattle.flt_store.specs.Store.{IsAlive}
-use Rattle.flt_life_model.specs.Answers.{Told}
+use Rattle.flt_life_model.specs.Answers.{Told, byte_room}
 use Rattle.flt_life_model.specs.declared.answer.StepAnswer.TheVariants.{Dark}
 use Rattle.flt_lives.specs.Living.{IsUnderWay}
 use Rattle.flt_report.specs.Answer.{step_line}
@@ -25,7 +25,7 @@ use Rattle.flt_live.specs.Made.{MakesStep}
 -- There is room for one answer, and for the longest response.
 pub record IsReady (room : Room) : Type 0 where
   pub answers : 1 ≤ vec_capacity room.replies.answers
-  pub responses : 1040 ≤ vec_capacity room.replies.responses
+  pub responses : 1040 ≤ byte_room room.replies.responses
 
 -- A `power` is told as such, and every other line as answered.
 abbrev pub IsToldBy : Due → Answered → Type 0

@@ -3,7 +3,7 @@ ghost use Rattle.std.specs.Prelude.{◌≡◌, ◌≤◌, IfErr, IfOk, length};
 ghost use Rattle.std.specs.Vec.{vec_capacity};
 ghost use Rattle.flt_io.specs.Written.{Writes};
 ghost use Rattle.flt_dcm.specs.Whole.{config_of, state_of};
-ghost use Rattle.flt_life_model.specs.Answers.{told_with};
+ghost use Rattle.flt_life_model.specs.Answers.{byte_room, told_with};
 ghost use Rattle.flt_report.specs.Answer.{step_line};
 ghost use Rattle.flt_live.specs.Answered.{IsLineAnswered, IsDarkLineAnswered, IsReady, IsUp};
 ghost use Rattle.flt_live.specs.Due.{IsDueIn, due_at, refusal_line, step_due};
@@ -111,10 +111,10 @@ fn say<K: Sink>(
     sink: &mut K,
 ) -> Result<Answered, StreamFault>
     requires answers { 1 ≤ vec_capacity replies.old.answers }
-    requires responses { 1040 ≤ vec_capacity replies.old.responses }
+    requires responses { 1040 ≤ byte_room replies.old.responses }
     requires few { length response.now ≤ 1040 }
     ensures answers { vec_capacity replies.new.answers ≡ vec_capacity replies.old.answers }
-    ensures responses { vec_capacity replies.old.responses ≤ vec_capacity replies.new.responses }
+    ensures responses { byte_room replies.old.responses ≤ byte_room replies.new.responses }
     ensures told { IfOk result (λ told. told ≡ Answered.Line) }
     ensures written { Writes K.held K.faults sink.old sink.new (step_line step.now (told_with response.now answer)) result }
 {

@@ -13,7 +13,7 @@ use Rattle.flt_model.specs.Start.{Start, History}
 use Rattle.flt_model.specs.declared.TheConstants.{RESPONSE}
 use Rattle.flt_model.specs.declared.call.Op.{Op}
 use Rattle.flt_model.specs.declared.call.Op.TheVariants as ops
-use Rattle.flt_life_model.specs.Answers.{reply_size}
+use Rattle.flt_life_model.specs.Answers.{byte_room, reply_size}
 use Rattle.flt_life_model.specs.declared.action.Action.{Action}
 use Rattle.flt_life_model.specs.declared.action.Action.TheVariants.{Call, Queue, Save, Drain, Get, Arm}
 use Rattle.flt_step.specs.declared.step.Part.{Part}
@@ -91,7 +91,7 @@ one_of account first rest room =
       responses = omega (arith, bytes, responses);
     }
 
-pub response_fits : (account : Account) (action : Action) → HasRoomFor account (action ∷ []) → vec_len account.replies.responses + response_size action ≤ vec_capacity account.replies.responses
+pub response_fits : (account : Account) (action : Action) → HasRoomFor account (action ∷ []) → vec_len account.replies.responses + response_size action ≤ byte_room account.replies.responses
 response_fits account action room =
     let sum = sum_by-cons response_size action [] in
     let fits = room.responses in
@@ -101,7 +101,7 @@ response_fits account action room =
 pub room_after : (before after : Account) (action : Action) (rest : List Action) → HasRoomFor before (action ∷ rest) → vec_len after.journal ≤ vec_len before.journal + call_count action
     → vec_capacity after.journal ≡ vec_capacity before.journal → vec_len after.replies.answers ≡ vec_len before.replies.answers + 1
     → vec_capacity after.replies.answers ≡ vec_capacity before.replies.answers → vec_len after.replies.responses ≤ vec_len before.replies.responses + response_size action
-    → vec_capacity before.replies.responses ≤ vec_capacity after.replies.responses → HasRoomFor after rest
+    → byte_room before.replies.responses ≤ byte_room after.replies.responses → HasRoomFor after rest
 room_after before after action rest room calls call_room answers answer_room responses response_room =
     let call_sum = sum_by-cons call_count action rest in
     let response_sum = sum_by-cons response_size action rest in

@@ -17,7 +17,7 @@ use Rattle.flt_step.specs.Part.{PartOf}
 use Rattle.flt_life_model.specs.declared.action.Action.{Action}
 use Rattle.flt_life_model.specs.declared.action.Action.TheVariants.{Save, Drain, Get}
 use Rattle.flt_life_model.specs.Actions.{call_count, response_size}
-use Rattle.flt_life_model.specs.Answers.{Told}
+use Rattle.flt_life_model.specs.Answers.{Told, byte_room}
 use Rattle.flt_life_model.specs.Ordered.{deeds_in}
 use Rattle.flt_life_model.specs.Room.{told_in}
 use Rattle.flt_lives.specs.Carried.{IsCarriedOut}
@@ -51,7 +51,7 @@ pub record HasRoomFor (account : Account) (actions : List Action) : Type 0 where
   pub few : vec_len account.journal + sum_by call_count actions ≤ 131072
   pub calls : vec_len account.journal + sum_by call_count actions ≤ vec_capacity account.journal
   pub answers : vec_len account.replies.answers + length actions ≤ vec_capacity account.replies.answers
-  pub responses : vec_len account.replies.responses + sum_by response_size actions ≤ vec_capacity account.replies.responses
+  pub responses : vec_len account.replies.responses + sum_by response_size actions ≤ byte_room account.replies.responses
 
 -- What holds of a life, with the count of faults at the end of its start-up, and the arms that were made in it.
 pub record IsLived (c : Config) (before after : BlocksState) (life : LifeView) : Type 0 where

@@ -4,7 +4,7 @@ ghost use Rattle.std.specs.Vec.{vec_capacity};
 ghost use Rattle.flt_step.specs.Part.{part_of, parts_of};
 ghost use Rattle.flt_store.specs.Store.{driver_of};
 ghost use Rattle.flt_life_model.specs.Actions.{IsPossibleArm, arm_count, arms_of, all_arms};
-ghost use Rattle.flt_life_model.specs.Answers.{told_with, response_length};
+ghost use Rattle.flt_life_model.specs.Answers.{byte_room, told_with, response_length};
 ghost use Rattle.flt_life_model.specs.declared.life.Boot.TheVariants as boots;
 ghost use Rattle.flt_life_model.specs.Lives.{view_of};
 ghost use Rattle.flt_life_model.specs.Moment.{moment_of};
@@ -52,12 +52,12 @@ fn take_dark_part<D: Blocks + Drop>(store: &mut Store<D>, part: &Part, own: &mut
     requires possible { All IsPossibleArm (own_actions (part_of part.now ∷ [])) }
     requires arms { (driver_of store.old).device.bench.armed + arms_in (part_of part.now) ≤ 64 }
     requires room { vec_len own.old.answers + length (own_steps (part_of part.now ∷ [])) ≤ vec_capacity own.old.answers }
-    requires bytes { vec_len own.old.responses ≤ vec_capacity own.old.responses }
+    requires bytes { vec_len own.old.responses ≤ byte_room own.old.responses }
     ensures answers { told_in own.new ≡ told_in own.old ++ map dark_answer (own_actions (part_of part.now ∷ [])) }
     ensures len { vec_len own.new.answers ≡ vec_len own.old.answers + length (own_steps (part_of part.now ∷ [])) }
     ensures room { vec_capacity own.new.answers ≡ vec_capacity own.old.answers }
     ensures responses { vec_len own.new.responses ≡ vec_len own.old.responses }
-    ensures bytes { vec_capacity own.old.responses ≤ vec_capacity own.new.responses }
+    ensures bytes { byte_room own.old.responses ≤ byte_room own.new.responses }
     ensures same { moment_of (driver_of store.new) ≡ moment_of (driver_of store.old) }
     ensures goes_on { GoesOn (driver_of store.old) (driver_of store.new) }
     ensures given { WereGiven (all_arms (own_actions (part_of part.now ∷ []))) (driver_of store.old).device.bench.arms (driver_of store.new).device.bench.arms }

@@ -15,8 +15,7 @@ use Rattle.flt_step.specs.declared.step.Step.{Step}
 use Rattle.flt_life_model.specs.declared.replies.LaneReplies.{LaneReplies}
 use Rattle.flt_life_model.specs.Room.{told_in}
 use Rattle.flt_report.specs.Left.{IsWritten}
-use Rattle.flt_life_model.specs.declared.answer.StepAnswer.{StepAnswer}
-use Rattle.flt_life_model.specs.Answers.{KeptReply, Told, with_reply, reply_in, told_by}
+use Rattle.flt_life_model.specs.Answers.{KeptAnswer, Told, told_of, told_by}
 use Rattle.flt_report.specs.Answer.{step_line}
 use Rattle.flt_report.specs.Life.{lane_steps, lines_text, lane_text, lanes_text}
 
@@ -93,11 +92,11 @@ ends old new left whole none on = subst (Appends old new) (sym (append-nil on.te
 -- ---- the lines of steps that are left
 
 -- Those of the steps from an index on.
-abbrev pub steps_left : List ℕ → List Step → List (StepAnswer KeptReply) → ℕ → List ℕ
+abbrev pub steps_left : List ℕ → List Step → List KeptAnswer → ℕ → List ℕ
 steps_left bytes steps answers index = lines_text (drop index steps) (told_by bytes (drop index answers))
 
-pub steps_more : (bytes : List ℕ) (steps : List Step) (answers : List (StepAnswer KeptReply)) (index : ℕ) (step : Step) (answer : StepAnswer KeptReply) → index < length steps → index < length answers
-    → steps_left bytes steps answers index ≡ step_line (get_or steps index step) (with_reply (reply_in bytes) (get_or answers index answer)) ++ steps_left bytes steps answers (index + 1)
+pub steps_more : (bytes : List ℕ) (steps : List Step) (answers : List KeptAnswer) (index : ℕ) (step : Step) (answer : KeptAnswer) → index < length steps → index < length answers
+    → steps_left bytes steps answers index ≡ step_line (get_or steps index step) (told_of bytes (get_or answers index answer)) ++ steps_left bytes steps answers (index + 1)
 unfolding lines_text
 steps_more bytes steps answers index step answer there too = rw (drop-cons steps index step there, drop-cons answers index answer too, add-one) refl
 
@@ -110,7 +109,7 @@ no_steps : (told : List Told) → lines_text [] told ≡ []
 unfolding lines_text
 no_steps told = refl
 
-pub steps_end : (bytes : List ℕ) (steps : List Step) (answers : List (StepAnswer KeptReply)) (index : ℕ) → min (length steps) (length answers) ≤ index → steps_left bytes steps answers index ≡ []
+pub steps_end : (bytes : List ℕ) (steps : List Step) (answers : List KeptAnswer) (index : ℕ) → min (length steps) (length answers) ≤ index → steps_left bytes steps answers index ≡ []
 steps_end bytes steps answers index past = elim (cases_lt index (length steps)) [
   | inl below ↦
       let short : length answers ≤ index = omega (arith, below, past) in

@@ -1,20 +1,20 @@
 //! The answer to a step.
-ghost use Rattle.std.specs.Prelude.{◌≡◌, ◌≤◌, ◌+◌, ◌++◌, ◌∷◌, [], OnOk, OnErr, length, vec_len};
+ghost use Rattle.std.specs.Prelude.{◌≡◌, ◌≤◌, ◌+◌, ◌*◌, ◌++◌, ◌∷◌, [], ℕ, List, OnOk, OnErr, length, vec_len};
 ghost use Rattle.std.specs.Vec.{vec_capacity};
 ghost use Rattle.flt_dcm.specs.ReplyKind.{reply_with};
-ghost use Rattle.flt_life_model.specs.Answers.{IsReplyWithin, IsAnswerWithin, reply_in, with_reply};
+ghost use Rattle.flt_life_model.specs.Answers.{IsReplyWithin, IsAnswerWithin, reply_in, queue_reply_in, told_of};
 ghost use Rattle.flt_step.specs.Puts.{Puts};
 ghost use Rattle.flt_report.specs.Room.{reply_room, kept_room, answer_room};
 ghost use Rattle.flt_report.specs.Answer.{flag_text, shown_text, ignored_text, reply_text, save_fault_text, last_text, queue_text, drained_text, answer_text, answer_part};
 
-use flt_life_model::{Answer, KeptReply, StepAnswer};
+use flt_life_model::{Answer, KeptAnswer, KeptQueueReply, KeptReply, StepAnswer};
 use flt_model::{Cause, ReplyOf, Shown};
-use flt_queue::{LastResult, QueueReply};
+use flt_queue::LastResult;
 use flt_step::{put_byte, put_bytes, put_number, put_signed, put_text};
 use flt_store::SaveFault;
 use std::alloc::AllocError;
 
-/// How many bytes an answer without a response has at most.
+/// How many bytes an answer has at most, without a response and the bytes of a block.
 const ANSWER_ROOM: usize = 96;
 
 /// How many bytes stand about an answer, of the arrow and the end of the line.
@@ -97,16 +97,19 @@ fn put_last(last: LastResult, out: &mut Vec<u8>)
 }
 
 /// Puts the queue's reply to a post or a question.
-fn put_queue_reply(reply: &QueueReply, out: &mut Vec<u8>)
+fn put_queue_reply(reply: &KeptQueueReply, out: &mut Vec<u8>)
     requires { vec_len out.old + 8 ≤ vec_capacity out.old }
-    ensures { Puts out.old out.new (queue_text reply.now) 8 }
+    ensures { (bytes : List ℕ) → Puts out.old out.new (queue_text (queue_reply_in bytes reply.now)) 8 }
 {
     match reply {
-        QueueReply::Accepted => put_text(b"accepted", out),
-        QueueReply::BlockPending => put_text(b"pending", out),
-        QueueReply::QueueFull => put_text(b"full", out),
-        QueueReply::Last(last) => put_last(*last, out),
-        _ => {}
+        KeptQueueReply::Accepted => put_text(b"accepted", out),
+        KeptQueueReply::BlockPending => put_text(b"pending", out),
+        KeptQueueReply::QueueFull => put_text(b"full", out),
+        KeptQueueReply::Last(last) => put_last(*last, out),
+        KeptQueueReply::Job { .. }
+        | KeptQueueReply::NoJob
+        | KeptQueueReply::Noted
+        | KeptQueueReply::NotTaken => {}
     }
 }
 
@@ -143,7 +146,7 @@ fn response_in(reply: KeptReply, responses: &[u8]) -> &[u8]
     ensures room { reply_room reply result.now ≡ kept_room reply }
 {
     match reply {
-        ReplyOf::Response(kept) => &responses[kept.from..kept.from + kept.length],
+        ReplyOf::Response(kept) => kept.among(responses),
         _ => &[],
     }
 }
@@ -180,10 +183,10 @@ pub fn put_kept_reply(
 }
 
 /// Puts an answer.
-fn put_told(answer: &StepAnswer<KeptReply>, responses: &[u8], out: &mut Vec<u8>)
+fn put_told(answer: &KeptAnswer, responses: &[u8], out: &mut Vec<u8>)
     requires within { IsAnswerWithin (length responses.now) answer.now }
     requires room { vec_len out.old + answer_room answer.now ≤ vec_capacity out.old }
-    ensures { Puts out.old out.new (answer_text (with_reply (reply_in responses.now) answer.now)) (answer_room answer.now) }
+    ensures { Puts out.old out.new (answer_text (told_of responses.now answer.now)) (answer_room answer.now) }
 {
     match answer {
         StepAnswer::Dem(told) => {
@@ -193,7 +196,7 @@ fn put_told(answer: &StepAnswer<KeptReply>, responses: &[u8], out: &mut Vec<u8>)
         StepAnswer::SaveFailed(fault) => put_save_fault(*fault, out),
         StepAnswer::Queue(told) => put_queue_reply(&told.reply, out),
         StepAnswer::Drained { written, failed } => put_drained(*written, *failed, out),
-        StepAnswer::Bytes(bytes) => put_bytes(bytes, out),
+        StepAnswer::Bytes(kept) => put_bytes(kept.among(responses), out),
         StepAnswer::NoBlock => put_text(b"missing", out),
         StepAnswer::BlockFlash => put_text(b"flash", out),
         StepAnswer::Armed => put_text(b"armed", out),
@@ -203,12 +206,12 @@ fn put_told(answer: &StepAnswer<KeptReply>, responses: &[u8], out: &mut Vec<u8>)
 
 /// Puts an arrow, an answer and the end of the line. Where memory is short it puts nothing.
 pub(crate) fn put_answer(
-    answer: &StepAnswer<KeptReply>,
+    answer: &KeptAnswer,
     responses: &[u8],
     out: &mut Vec<u8>,
 ) -> Result<(), AllocError>
     requires { IsAnswerWithin (length responses.now) answer.now }
-    ensures ok { OnOk result (out.new.items ≡ out.old.items ++ answer_part (with_reply (reply_in responses.now) answer.now)) }
+    ensures ok { OnOk result (out.new.items ≡ out.old.items ++ answer_part (told_of responses.now answer.now)) }
     ensures err { OnErr result (out.new.items ≡ out.old.items) }
 {
     let room = match answer {
@@ -217,10 +220,11 @@ pub(crate) fn put_answer(
                 reply: ReplyOf::Response(kept),
                 ..
             },
-        ) => kept.length.checked_mul(3).ok_or(AllocError)?,
+        ) => kept.length as usize * 3,
+        StepAnswer::Bytes(kept) => kept.length as usize * 3,
         _ => ANSWER_ROOM,
     };
-    out.reserve(room.checked_add(ABOUT_ANSWER).ok_or(AllocError)?)?;
+    out.reserve(room + ABOUT_ANSWER)?;
     put_text(b" -> ", out);
     put_told(answer, responses, out);
     put_text(b"\n", out);

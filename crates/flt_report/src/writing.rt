@@ -5,7 +5,7 @@ ghost use Rattle.flt_restore.specs.declared.fault.StartFault.TheVariants.{Flash}
 ghost use Rattle.flt_step.specs.Part.{parts_of};
 ghost use Rattle.flt_life_model.specs.declared.answer.StepAnswer.TheVariants as answers;
 ghost use Rattle.flt_life_model.specs.declared.life.Boot.TheVariants.{Refused};
-ghost use Rattle.flt_life_model.specs.Answers.{IsAnswerWithin, reply_in, with_reply};
+ghost use Rattle.flt_life_model.specs.Answers.{IsAnswerWithin, told_of};
 ghost use Rattle.flt_life_model.specs.Parts.{widths};
 ghost use Rattle.flt_life_model.specs.Room.{told_in};
 ghost use Rattle.flt_report.specs.Answer.{step_line};
@@ -16,7 +16,7 @@ use crate::block::{put_end, put_lane, put_par};
 use crate::boot::put_boot;
 use crate::step::put_step;
 use flt_io::{Sink, StreamFault};
-use flt_life_model::{Boot, KeptReply, LaneReplies, StepAnswer};
+use flt_life_model::{Boot, KeptAnswer, LaneReplies};
 use flt_step::{Part, Step};
 use std::alloc::AllocError;
 
@@ -35,11 +35,11 @@ pub fn write_text<K: Sink>(text: &[u8], sink: &mut K) -> Result<(), StreamFault>
 fn put_answered(
     line: &mut Vec<u8>,
     step: &Step,
-    answer: &StepAnswer<KeptReply>,
+    answer: &KeptAnswer,
     responses: &[u8],
 ) -> Result<(), AllocError>
     requires { IsAnswerWithin (length responses.now) answer.now }
-    ensures { OnOk result (line.new.items ≡ step_line step.now (with_reply (reply_in responses.now) answer.now)) }
+    ensures { OnOk result (line.new.items ≡ step_line step.now (told_of responses.now answer.now)) }
 {
     line.clear();
     put_step(step, answer, responses, line)

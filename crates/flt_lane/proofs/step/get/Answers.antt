@@ -1,4 +1,4 @@
-use Rattle.std.proofs.Common.{◌≡◌, ℕ, List, ◌∷◌, refl}
+use Rattle.std.proofs.Common.{◌≡◌, ℕ, List, [], ◌∷◌, refl, rules}
 use Rattle.flt_config.specs.declared.config.Config.{Config}
 use Rattle.flt_flash.specs.Calls.{SameValues}
 use Rattle.flt_flash.specs.Content.{Content}
@@ -19,7 +19,7 @@ use Rattle.flt_life_model.specs.SoFar.{IsCaused}
 use Rattle.flt_life_model.proofs.Causing.{caused_read, caused_unread}
 use Rattle.flt_lane.specs.Living.{Carries, drains_by, saves_by}
 use Rattle.flt_lane.specs.Runs.{QueueSeat}
-use Rattle.flt_lane.proofs.Answering.{keeps, takes_deed}
+use Rattle.flt_lane.proofs.Answering.{keeps, keeps_with, takes_deed}
 use Rattle.flt_life_model.proofs.HeldBlocks.{gets_bytes, gets_none, held_by}
 use Rattle.flt_lane.proofs.Carrying.{holds_deed, living_deed}
 use Rattle.flt_life_model.proofs.Keeping.{IsNoSave}
@@ -46,7 +46,7 @@ returns-in-Ok-true g c = record {
       let told : Told = answers.Bytes c.get_block.new.out in
       let kept = c.keep.ensures in
       takes_deed config seat seat jobs jobs (steps.Get c.args.block) told c.args.replies.now c.keep.new.self c.args.store.now c.get_block.new.self refl
-      (keeps c.args.replies.now c.keep.new.self (steps.Get c.args.block) (answers.Bytes c.get_block.new.out) kept.told kept.answers kept.room kept.responses kept.bytes refl)
+      (keeps_with c.args.replies.now c.keep.new.self (steps.Get c.args.block) (answers.Bytes c.get_block.new.out) [] [] refl kept.told kept.answers kept.room kept.responses kept.bytes (search rules))
       (none_made seat (steps.Get c.args.block) told (tt, refl)) (none_queued jobs (steps.Get c.args.block) told refl)
       (λ earlier. read_carries config seat jobs earlier c.args.block told c.args.store.now c.get_block.new.self c.get_block.ensures.values (c.get_block.ensures.running config) tt refl refl refl
       (λ begun caused. caused_read config begun (answers_of earlier) c.args.store.now c.get_block.new.self caused told tt c.get_block.ensures.follows (c.get_block.ensures.running config caused.held_now caused.spare_now caused.running))

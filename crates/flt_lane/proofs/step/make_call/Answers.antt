@@ -1,14 +1,14 @@
-use Rattle.std.proofs.Common.{◌≤◌, [], refl, rules, subst, sym, ◌∙◌}
+use Rattle.std.proofs.Common.{◌≤◌, [], arith, refl, rules, subst, sym, ◌∙◌}
 use Rattle.std.specs.Prelude.{reverse}
 use Rattle.flt_turn.specs.Seats.{ops_before}
 use Rattle.flt_shared.specs.Call.{whole}
-use Rattle.flt_life_model.specs.Actions.{response_size}
+use Rattle.flt_life_model.specs.Actions.{IsPossible, response_size}
 use Rattle.flt_life_model.specs.Answers.{Told, reply_size}
 use Rattle.flt_life_model.specs.Played.{ActionMakes, ActionQueues}
 use Rattle.flt_life_model.specs.declared.action.Action.TheVariants as action
 use Rattle.flt_life_model.specs.declared.answer.StepAnswer.TheVariants as answers
 use Rattle.flt_lane.proofs.Answering.{keeps, keeps_with}
-use Rattle.flt_lane.proofs.Stepping.{none_made, none_queued, one_made, one_queued, size_of_told}
+use Rattle.flt_lane.proofs.Stepping.{none_made, none_queued, one_made, one_queued, size_of_queued, size_of_told}
 use Rattle.flt_lane.proofs.step.make_call.Goals as goal
 
 pub returns-in-Ok-clause-made : goal.returns-in-Ok-clause-made
@@ -29,6 +29,13 @@ returns-in-Ok-clause-made g c = λ step is.
       queue = none_queued jobs step (answers.Dem told) (subst (λ a. ActionQueues a (answers.Dem told) []) (sym makes) refl);
     }
 
+pub keep-requires-in-Queue-clause-responses : goal.keep-requires-in-Queue-clause-responses
+keep-requires-in-Queue-clause-responses g c =
+    let config = c.args.seats.now.dem.start.config in
+    let none = size_of_queued config c.args.seats.now.queue c.call.new.seat c.in-Queue.op c.in-Ok-call.told (subst (IsPossible config) c.in-Queue.is c.requires.possible) c.in-Ok-call.ensures.call in
+    let room = c.requires.room.responses in
+    omega (arith, none, room)
+
 pub returns-in-Ok-call-clause-made : goal.returns-in-Ok-call-clause-made
 returns-in-Ok-call-clause-made g c = λ step is.
     let seat = c.args.seats.now.dem in
@@ -37,7 +44,8 @@ returns-in-Ok-call-clause-made g c = λ step is.
     let kept = c.keep-in-Queue.ensures in
     record {
       answer = told;
-      keeps = keeps c.args.replies.now c.keep-in-Queue.new.self step (answers.Queue c.in-Ok-call.told) kept.told kept.answers kept.room kept.responses kept.bytes refl;
+      keeps = keeps c.args.replies.now c.keep-in-Queue.new.self step (answers.Queue c.in-Ok-call.told) kept.told kept.answers kept.room kept.responses kept.bytes
+          (size_of_queued seat.start.config c.args.seats.now.queue c.call.new.seat c.in-Queue.op c.in-Ok-call.told (subst (IsPossible seat.start.config) c.in-Queue.is c.requires.possible) c.in-Ok-call.ensures.call);
       dem = none_made seat step told (subst (λ a. ActionMakes a told []) (sym makes) refl);
       queue = one_queued c.args.seats.now.queue step c.in-Queue.op c.in-Ok-call.told c.call.new.seat makes c.in-Ok-call.ensures.call;
     }

@@ -6,7 +6,7 @@ use Rattle.flt_io.specs.Sink.{AppendsFront}
 use Rattle.flt_step.specs.declared.step.Step.{Step}
 use Rattle.flt_step.specs.Part.{part_of, parts_of}
 use Rattle.flt_life_model.specs.declared.answer.StepAnswer.TheVariants as answers
-use Rattle.flt_life_model.specs.Answers.{reply_in, with_reply}
+use Rattle.flt_life_model.specs.Answers.{told_of}
 use Rattle.flt_life_model.specs.Parts.{width}
 use Rattle.flt_life_model.specs.Room.{told_in}
 use Rattle.flt_life_model.proofs.Sizes.{no_widths_more, widths_with, widths_within}
@@ -39,7 +39,7 @@ loop-part-preserved g c =
           let one : part_of part ≡ inl step = ap part_of w.in-One.is in
           let below = w.if-len-answered.false in
           let many = w.len.ensures in
-          let mapped = length-map c.args.own.now.answers.items (with_reply (reply_in c.args.own.now.responses.items)) in
+          let mapped = length-map c.args.own.now.answers.items (told_of c.args.own.now.responses.items) in
           let within : answered < length own = omega (arith, below, many, mapped, size) in
           let left = one_more parts own told index answered lanes part there is step one within in
           let kept = c.loop-part.piece.items in
@@ -89,7 +89,7 @@ pub returns-then-len-answered : goal.returns-then-len-answered
 returns-then-len-answered g c =
     let parts = c.args.parts.now in
     let own = told_in c.args.own.now in
-    let mapped = length-map c.args.own.now.answers.items (with_reply (reply_in c.args.own.now.responses.items)) in
+    let mapped = length-map c.args.own.now.answers.items (told_of c.args.own.now.responses.items) in
     let past : length own ≤ c.loop-part.answered = omega (arith, c.if-len-answered.true, c.len.ensures, mapped, c.args.own.now.answers.ok.0) in
     let kept = kept_alone _ _ c.loop-part.piece.items _ _ (unanswered parts own (map told_in c.args.told.now) c.loop-part.part-index c.loop-part.answered c.loop-part.lanes_told c.part-item.result c.loop-part-test.true c.part-item.is
     c.in-One.step (ap part_of c.in-One.is) past) c.loop-part.invariant.written in
@@ -105,7 +105,7 @@ returns-in_err-write_one-in-One g c =
     let lanes = c.loop-part.lanes_told in
     let whole = c.args.piece.now.items ++ parts_text 1 (parts_of parts) own told in
     let step = c.in-One.step in
-    let mapped = length-map c.args.own.now.answers.items (with_reply (reply_in c.args.own.now.responses.items)) in
+    let mapped = length-map c.args.own.now.answers.items (told_of c.args.own.now.responses.items) in
     let within : answered < length own = omega (arith, c.if-len-answered.false, c.len.ensures, mapped, c.args.own.now.answers.ok.0) in
     let left = one_more parts own told index answered lanes c.part-item.result c.loop-part-test.true c.part-item.is step (ap part_of c.in-One.is) within in
     let kept = c.loop-part.piece.items in

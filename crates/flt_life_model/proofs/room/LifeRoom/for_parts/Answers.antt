@@ -2,8 +2,16 @@ use Rattle.std.proofs.Common.{Vec, length, ap, arith}
 use Rattle.std.proofs.lemmas.List.{length-map}
 use Rattle.flt_step.specs.Part.{parts_of}
 use Rattle.flt_life_model.specs.declared.room.LaneRoom.{LaneRoom}
-use Rattle.flt_life_model.proofs.Sizes.{lanes_count}
+use Rattle.flt_life_model.specs.Parts.{own_steps}
+use Rattle.flt_life_model.proofs.Sizes.{lanes_count, own_most, sizes_most}
 use Rattle.flt_life_model.proofs.room.LifeRoom.for_parts.Goals as goal
+
+pub with_room-requires : goal.with_room-requires
+with_room-requires c =
+    let needs = c.in_ok-answers in
+    let many = own_most (parts_of c.args.parts.now) in
+    let most = sizes_most (own_steps (parts_of c.args.parts.now)) in
+    record { few = omega (arith, many, most, needs.bytes-is, needs.ensures.bytes, c.requires.few) }
 
 pub returns : goal.returns
 returns c =
