@@ -4,6 +4,7 @@ pub mod Sharing
 pub mod Seating
 pub mod WorkRuns
 pub mod Rooms
+pub mod Parts
 pub mod Running
 pub mod Stepping
 pub mod Saves

@@ -1,45 +1,52 @@
 -- A life after some of its parts, on both locks.
-use Rattle.std.proofs.Common.{◌≡◌, inl, inr, ◌<◌, ◌≤◌, ◌+◌, ◌^◌, ℕ, List, [], ◌∷◌, ◌++◌, All, length, map, reverse, arith, refl, sym, ap, subst, ◌∙◌}
-use Rattle.std.specs.Prelude.{Vec, vec_len}
+use Rattle.std.proofs.Common.{◌≡◌, ℕ, inl, inr, ◌≤◌, ◌+◌, List, [], ◌∷◌, ◌++◌, map, reverse, arith, refl, sym, ap, subst, ◌∙◌}
+use Rattle.std.specs.Prelude.{vec_len}
 use Rattle.std.specs.Vec.{vec_capacity}
-use Rattle.std.specs.List.{sum_by}
-use Rattle.std.proofs.lemmas.List.Sums.{sum_by-append, sum_by-cons, sum_by_push}
-use Rattle.std.proofs.lemmas.List.{map-append, length-append, append_assoc, append-nil, reverse-append}
+use Rattle.std.proofs.lemmas.List.Sums.{sum_by-cons, sum_by_push}
+use Rattle.std.proofs.lemmas.List.Elements.{All-head, All-tail}
+use Rattle.std.proofs.lemmas.List.{append-nil, reverse-append}
+use Rattle.flt_flash.specs.declared.arm.Arm.{Arm}
 use Rattle.flt_flash.specs.declared.blocks.Blocks.{Ghosts}
 use Rattle.flt_config.specs.declared.config.Config.{Config}
 use Rattle.flt_step.specs.declared.step.Step.{Step}
 use Rattle.flt_step.specs.Part.{PartOf}
 use Rattle.flt_store.specs.declared.store.Store.{Store}
+use Rattle.flt_store.specs.Store.{driver_of}
 use Rattle.flt_turn.specs.Seats as turn
 use Rattle.flt_turn.specs.Seats.{Seated}
 use Rattle.flt_queue.specs.Call as queued
 use Rattle.flt_queue.specs.Queue as queue
-use Rattle.flt_life_model.specs.declared.action.Action.{Action}
 use Rattle.flt_life_model.specs.declared.replies.LaneReplies.{LaneReplies}
 use Rattle.flt_life_model.specs.Actions.{action_of, all_arms, arms_of}
 use Rattle.flt_life_model.specs.Answers.{Told}
+use Rattle.flt_life_model.specs.Going.{WereGiven}
 use Rattle.flt_fork.specs.Mixing.{Call}
-use Rattle.flt_life_model.specs.Ordered.{deeds_in}
+use Rattle.flt_life_model.specs.Ordered.{Deed, deeds_in}
 use Rattle.flt_life_model.specs.Parts.{arms_in, calls_in, own_actions, own_steps, queued_in, width, widths}
 use Rattle.flt_life_model.specs.Played.{StepMakes, StepQueues}
 use Rattle.flt_life_model.specs.Room.{HasRoomForSteps, told_in}
-use Rattle.flt_life_model.proofs.Makings.{widths_more, widths-append, parts_none, parts_more}
-use Rattle.flt_life_model.proofs.Sizes.{sizes-cons}
+use Rattle.flt_life_model.proofs.Giving.{all_arms-append, given_further, none_given}
+use Rattle.flt_life_model.proofs.Makings.{widths_more, parts_none, parts_more}
+use Rattle.flt_life_model.proofs.Riding.{goes_nowhere, goes_further}
 use Rattle.flt_shared.specs.Call.{Seat, MayBeAsked, reply_after}
 use Rattle.flt_shared.specs.Lock.{IsSeatOf}
+use Rattle.flt_lane.specs.declared.living.LifeAnswers.{LifeAnswers}
 use Rattle.flt_lane.specs.declared.locks.Locks.{Locks}
-use Rattle.flt_lane.specs.declared.room.PartRoom.{PartRoom}
+use Rattle.flt_lane.specs.declared.locks.Seats.{Seats}
+use Rattle.flt_lane.specs.declared.room.BlockRoom.{BlockRoom}
 use Rattle.flt_fork.specs.Runs.{HasRunBlock, MakesBy}
-use Rattle.flt_lane.specs.Block.{HasRunPart, HasRunParts, Gains}
+use Rattle.flt_lane.specs.Block.{HasRunPart, HasRunParts}
 use Rattle.flt_lane.specs.BlockRun.{GainsPart, HasRunLanes}
 use Rattle.flt_fork.specs.Lived.{IsMain, HasLived}
 use Rattle.flt_lane.specs.Living.{Carries}
-use Rattle.flt_lane.specs.Room.{part_in}
+use Rattle.flt_lane.specs.Parts.{CanRunParts, HasRoomForParts, HaveLivedParts}
+use Rattle.flt_lane.specs.Room.{AreRoomsOf, IsPartFor}
 use Rattle.flt_lane.specs.Stepped.{TakesStep}
 use Rattle.flt_lane.specs.Runs.{QueueSeat, calls_by, queued_by}
+use Rattle.flt_lane.proofs.Carrying.{carries_beside, carries_further}
 use Rattle.flt_lane.proofs.LaneDeeds.{all_lanes_count, all_own_count, deeds_more, deeds_of_block, lanes_told_count, newest_of_one}
-use Rattle.flt_fork.proofs.Parts.{chain_part, lived_none, lived_more}
-use Rattle.flt_lane.proofs.Seating.{next_of}
+use Rattle.flt_lane.proofs.Starts.{config_stays}
+use Rattle.flt_fork.proofs.Parts.{chain_part, lived_none as chain_none, lived_more as chain_more}
 
 -- ---- on one lock
 
@@ -56,30 +63,28 @@ module _ {S O R : Type 0} (admits : S → O → Type 0) (answer : S → List O �
   pub part_block : (main after : Seated S O) (lanes : List (List Step)) (told : List (List Told)) → HasRunBlock answer MadeBy main after lanes told → HasRunPart answer MadeBy main after (inr lanes) [] told
   part_block main after lanes told ran = record { made = ran.made; makes = (refl, ran.makes); lived = ran.lived }
 
-  pub no_parts : (main : Seated S O) → IsMain main → HasRunParts answer MadeBy main main [] [] []
-  no_parts main is = record { blocks = []; made = parts_none MadeBy (main.children + 1); lived = lived_none admits answer main is }
+  -- No part yet.
+  pub runs_none : (main : Seated S O) (own : List Told) (lanes : List (List Told)) → IsMain main → own ≡ [] → lanes ≡ [] → HasRunParts answer MadeBy main main [] own lanes
+  runs_none main own lanes is no_own no_lanes =
+      subst (λ l. HasRunParts answer MadeBy main main [] l lanes) (sym no_own)
+      (subst (λ l. HasRunParts answer MadeBy main main [] [] l) (sym no_lanes)
+      (record { blocks = []; made = parts_none MadeBy (main.children + 1); lived = chain_none admits answer main is }))
 
-  pub run_more : (main now after : Seated S O) (parts : List (PartOf Step)) (own : List Told) (lanes : List (List Told)) (part : PartOf Step) (mine : List Told) (others : List (List Told)) → HasRunParts answer MadeBy main now parts own lanes
-      → HasRunPart answer MadeBy now after part mine others → HasRunParts answer MadeBy main after (parts ++ part ∷ []) (own ++ mine) (lanes ++ others)
-  run_more main now after parts own lanes part mine others ran one =
+  -- One part more.
+  pub runs_more : (main now after : Seated S O) (parts : List (PartOf Step)) (own : List Told) (lanes : List (List Told)) (part : PartOf Step) (mine : List Told) (others : List (List Told)) (own_after : List Told) (lanes_after : List (List Told))
+      → HasRunParts answer MadeBy main now parts own lanes → HasRunPart answer MadeBy now after part mine others → own_after ≡ own ++ mine → lanes_after ≡ lanes ++ others
+      → HasRunParts answer MadeBy main after (parts ++ part ∷ []) own_after lanes_after
+  runs_more main now after parts own lanes part mine others own_after lanes_after ran one own_are lanes_are =
       let wide : widths (parts ++ part ∷ []) ≡ widths parts + width part = widths_more parts part in
       let blocks = ran.blocks ++ one.made ∷ [] in
       let children = ran.lived.children_is in
       let number : now.children + 1 ≡ (main.children + 1) + widths parts = omega (arith, children) in
-      record {
+      subst (λ l. HasRunParts answer MadeBy main after (parts ++ part ∷ []) l lanes_after) (sym own_are)
+      (subst (λ l. HasRunParts answer MadeBy main after (parts ++ part ∷ []) (own ++ mine) l) (sym lanes_are) (record {
         blocks = blocks;
         made = parts_more MadeBy (main.children + 1) (now.children + 1) parts own lanes ran.blocks part mine others one.made number ran.made one.makes;
-        lived = subst (λ n. HasLived answer main after n blocks) (sym wide) (lived_more admits answer main now after (widths parts) (width part) ran.blocks (one.made ∷ []) ran.lived one.lived);
-      }
-
-abbrev DemPart : Seat → Seat → PartOf Step → List Told → List (List Told) → Type 0
-DemPart = HasRunPart reply_after StepMakes
-
-abbrev DemParts : Seat → Seat → List (PartOf Step) → List Told → List (List Told) → Type 0
-DemParts = HasRunParts reply_after StepMakes
-
-abbrev QueueParts : QueueSeat → QueueSeat → List (PartOf Step) → List Told → List (List Told) → Type 0
-QueueParts = HasRunParts queued.reply_after StepQueues
+        lived = subst (λ n. HasLived answer main after n blocks) (sym wide) (chain_more admits answer main now after (widths parts) (width part) ran.blocks (one.made ∷ []) ran.lived one.lived);
+      }))
 
 -- ---- a part on both
 
@@ -96,6 +101,9 @@ module _ {B : Type 0} {b : Ghosts B} (c : Config) (main after : Seat) (jobs jobs
       queue = part_one queue.IsAdmitted queued.reply_after StepQueues queued_by jobs jobs_after step one.made.answer is_queue one.made.queue;
     };
     carries = λ earlier. subst (λ l. Carries c main after jobs jobs_after earlier l store now) (sym (newest_of_one step one.made.answer [] earlier)) (one.carries earlier);
+    goes_on = one.goes_on;
+    given = subst (λ l. WereGiven l (driver_of store).device.bench.arms (driver_of now).device.bench.arms) (sym (append-nil (arms_of (action_of step)))) one.given;
+    armed = one.armed;
   }
 
   pub gains_block : (lanes : List (List Step)) (own : List Told) (told told_after : List (List Told)) → HasRunLanes c main after jobs jobs_after lanes told told_after store now
@@ -112,157 +120,117 @@ module _ {B : Type 0} {b : Ghosts B} (c : Config) (main after : Seat) (jobs jobs
           queue = part_block queue.IsAdmitted queued.reply_after StepQueues queued_by jobs jobs_after lanes ran.run.others ran.run.queue;
         };
         carries = λ earlier. subst (λ l. Carries c main after jobs jobs_after earlier (reverse l ++ earlier) store now) (sym (deeds_of_block lanes ran.run.others size)) (ran.carries earlier);
+        goes_on = ran.leaves.goes_on;
+        given = ran.leaves.given;
+        armed = let armed = ran.leaves.armed in omega (arith, armed);
       }
 
 -- ---- room
 
--- There is room for the first of these steps.
-pub room_of_first : (replies : LaneReplies) (step : Step) (rest : List Step) → HasRoomForSteps replies (step ∷ rest) → HasRoomForSteps replies (step ∷ [])
-room_of_first replies step rest room =
-    let all = sizes-cons step rest in
-    let one = sizes-cons step [] in
-    let answers = room.answers in
-    let responses = room.responses in
-    record { answers = omega (arith, answers); responses = omega (arith, responses, all, one) }
-
-room_of_none : (replies : LaneReplies) (steps : List Step) → HasRoomForSteps replies steps → HasRoomForSteps replies []
-room_of_none replies steps room = let answers = room.answers in let responses = room.responses in record { answers = omega (arith, answers); responses = omega (arith, responses) }
-
-pub room_of_part : (replies : LaneReplies) (part : PartOf Step) (rest : List (PartOf Step)) → HasRoomForSteps replies (own_steps (part ∷ rest)) → HasRoomForSteps replies (own_steps (part ∷ []))
-room_of_part replies (inl step) rest room = room_of_first replies step (own_steps rest) room
-room_of_part replies (inr lanes) rest room = room_of_none replies (own_steps rest) room
-
-abbrev pub parts_in : List PartRoom → List (PartOf Step)
-parts_in rooms = map part_in rooms
-
--- ---- the life
-
-pub record IsLiving {F : _} {g : _} {A : Type 0} (locks : Locks F g) (main now : Seat) (jobs jobs_now : QueueSeat) (parts : List PartRoom) (own : LaneReplies) (told : Vec LaneReplies A) (armed armed_now : ℕ) (done rest : List PartRoom) : Type 0 where
-  pub all : done ++ rest ≡ parts
-  pub dem : DemParts main now (parts_in done) (told_in own) (map told_in told.items)
-  pub queue : QueueParts jobs jobs_now (parts_in done) (told_in own) (map told_in told.items)
-  pub seat : IsSeatOf locks.dem now
-  pub queue_seat : turn.IsSeatOf locks.queue.turn jobs_now
-  pub left : main.left ≤ now.left + sum_by calls_in (parts_in done)
-  pub queue_left : jobs.left ≤ jobs_now.left + sum_by queued_in (parts_in done)
-  pub arms : armed_now ≤ armed + sum_by arms_in (parts_in done)
-  pub own_len : vec_len own.answers ≤ length done
-  pub own_room : HasRoomForSteps own (own_steps (parts_in rest))
-  pub told_len : vec_len told ≡ widths (parts_in done)
-  pub told_room : widths (parts_in parts) ≤ vec_capacity told
-
-pub living_begins : {F : _} {g : _} {A : Type 0} (locks : Locks F g) (main : Seat) (jobs : QueueSeat) (parts rest : List PartRoom) (own : LaneReplies) (told : Vec LaneReplies A) (armed : ℕ) → rest ≡ parts → IsMain main → IsMain jobs
-    → IsSeatOf locks.dem main → turn.IsSeatOf locks.queue.turn jobs → (told_in own ≡ []) × (vec_len own.answers ≡ 0) → HasRoomForSteps own (own_steps (parts_in parts)) → (told.items ≡ []) × (vec_len told ≡ 0)
-    → widths (parts_in parts) ≤ vec_capacity told → IsLiving locks main main jobs jobs parts own told armed armed [] rest
-living_begins locks main jobs parts rest own told armed is main_is jobs_is seat queue_seat no_own own_room no_told told_room = record {
-  all = is;
-  dem = subst (λ l. DemParts main main [] l (map told_in told.items)) (sym no_own.0) (subst (λ l. DemParts main main [] [] (map told_in l)) (sym no_told.0) (no_parts MayBeAsked reply_after StepMakes calls_by main main_is));
-  queue = subst (λ l. QueueParts jobs jobs [] l (map told_in told.items)) (sym no_own.0) (subst (λ l. QueueParts jobs jobs [] [] (map told_in l)) (sym no_told.0) (no_parts queue.IsAdmitted queued.reply_after StepQueues queued_by jobs jobs_is));
-  seat = seat;
-  queue_seat = queue_seat;
-  left = omega arith;
-  queue_left = omega arith;
-  arms = omega arith;
-  own_len = omega (arith, no_own.1);
-  own_room = subst (λ l. HasRoomForSteps own (own_steps (parts_in l))) (sym is) own_room;
-  told_len = no_told.1;
-  told_room = told_room;
+-- There is room for the later parts behind the first one.
+pub room_behind : (answers kept : LifeAnswers) (part : PartOf Step) (rest : List (PartOf Step)) → HasRoomForParts answers (part ∷ rest) → vec_len kept.own.answers ≤ vec_len answers.own.answers + 1 → HasRoomForSteps kept.own (own_steps rest)
+    → vec_len kept.told ≡ vec_len answers.told + width part → vec_capacity kept.told ≡ vec_capacity answers.told → HasRoomForParts kept rest
+room_behind answers kept part rest room own_len own_room told_len told_capacity = record {
+  few = omega (arith, room.few, own_len);
+  own = own_room;
+  told = omega (arith, room.told, told_len, told_capacity);
 }
 
--- The arms of one part more.
-arms-append : (actions more : List Action) → all_arms (actions ++ more) ≡ all_arms actions ++ all_arms more
-arms-append [] more = refl
-arms-append (action ∷ actions) more = ap (λ l. arms_of action ++ l) (arms-append actions more) ∙ sym (append_assoc (arms_of action) (all_arms actions) (all_arms more))
+-- ---- the parts that are ahead
+
+module _ {F : _} {g : _} {B : Type 0} {b : Ghosts B} (locks : Locks F g) (c : Config) (seats : Seats) (store : Store B b) (rooms : List BlockRoom) (answers : LifeAnswers) (part : PartOf Step) (rest : List (PartOf Step))
+    (can : CanRunParts locks c seats store rooms answers (part ∷ rest)) where
+  -- The steps of the first of them.
+  pub part_for : IsPartFor c part
+  part_for = All-head (IsPartFor c) part rest can.steps
+
+  -- What the later ones need, behind it.
+  pub can_behind : (after : Seats) (now : Store B b) (left : List BlockRoom) (kept : LifeAnswers)
+      → GainsPart c seats.dem after.dem seats.queue after.queue part (told_in answers.own) (told_in kept.own) (map told_in answers.told.items) (map told_in kept.told.items) store now
+      → IsSeatOf locks.dem after.dem → turn.IsSeatOf locks.queue.turn after.queue → seats.dem.left ≤ after.dem.left + calls_in part → seats.queue.left ≤ after.queue.left + queued_in part
+      → vec_len kept.own.answers ≤ vec_len answers.own.answers + 1 → HasRoomForSteps kept.own (own_steps rest)
+      → vec_len kept.told ≡ vec_len answers.told + width part → vec_capacity kept.told ≡ vec_capacity answers.told → AreRoomsOf rest left → CanRunParts locks c after now left kept rest
+  can_behind after now left kept gains seat queue_seat dem_left queue_left own_len own_room told_len told_capacity rooms_are =
+      let dem = gains.gains.dem.lived in
+      let queue = gains.gains.queue.lived in
+      let calls_sum = sum_by-cons calls_in part rest in
+      let queued_sum = sum_by-cons queued_in part rest in
+      let arms_sum = sum_by-cons arms_in part rest in
+      record {
+        ready = record {
+          dem = record { lock = seat; has = config_stays c seats.dem after.dem dem.start_is can.ready.dem.has };
+          queue = record { lock = queue_seat; blocks = queue.start_is ∙ can.ready.queue.blocks; valid = can.ready.queue.valid };
+        };
+        main = (dem.main_after, queue.main_after);
+        alive = (gains.carries []).alive can.alive;
+        steps = All-tail (IsPartFor c) part rest can.steps;
+        arms = omega (arith, arms_sum, can.arms, gains.armed);
+        calls = record {
+          dem = omega (arith, calls_sum, can.calls.dem, dem_left);
+          queue = omega (arith, queued_sum, can.calls.queue, queue_left);
+          dem_numbers = omega (arith, can.calls.dem_numbers, dem.children_is);
+          queue_numbers = omega (arith, can.calls.queue_numbers, queue.children_is);
+        };
+        rooms_are = rooms_are;
+        room = room_behind answers kept part rest can.room own_len own_room told_len told_capacity;
+      }
+
+-- ---- the parts that were carried out
 
 actions-append : (parts more : List (PartOf Step)) → own_actions (parts ++ more) ≡ own_actions parts ++ own_actions more
 actions-append [] more = refl
 actions-append (inl step ∷ parts) more = ap (λ l. action_of step ∷ l) (actions-append parts more)
 actions-append (inr lanes ∷ parts) more = actions-append parts more
 
-pub arms_more_parts : (done : List PartRoom) (part : PartRoom) → all_arms (own_actions (parts_in (done ++ part ∷ []))) ≡ all_arms (own_actions (parts_in done)) ++ all_arms (own_actions (part_in part ∷ []))
-arms_more_parts done part = ap (λ l. all_arms (own_actions l)) (map-append part_in done (part ∷ [])) ∙ ap all_arms (actions-append (parts_in done) (part_in part ∷ []))
-    ∙ arms-append (own_actions (parts_in done)) (own_actions (part_in part ∷ []))
+arms_more_parts : (parts : List (PartOf Step)) (part : PartOf Step) → all_arms (own_actions (parts ++ part ∷ [])) ≡ all_arms (own_actions parts) ++ all_arms (own_actions (part ∷ []))
+arms_more_parts parts part = ap all_arms (actions-append parts (part ∷ [])) ∙ all_arms-append (own_actions parts) (own_actions (part ∷ []))
 
--- What the parts need in all is what those that were carried out, the next one and the later ones need.
-parts_split : (parts done rest later : List PartRoom) (part : PartRoom) → done ++ rest ≡ parts → rest ≡ part ∷ later → parts_in parts ≡ parts_in done ++ part_in part ∷ parts_in later
-parts_split parts done rest later part is next = ap parts_in (sym is) ∙ map-append part_in done rest ∙ ap (λ l. parts_in done ++ parts_in l) next
-
-sum_split : (amount : PartOf Step → ℕ) (parts done rest later : List PartRoom) (part : PartRoom) → done ++ rest ≡ parts → rest ≡ part ∷ later
-    → sum_by amount (parts_in parts) ≡ sum_by amount (parts_in done) + (amount (part_in part) + sum_by amount (parts_in later))
-sum_split amount parts done rest later part is next =
-    ap (sum_by amount) (parts_split parts done rest later part is next) ∙ sum_by-append amount (parts_in done) (part_in part ∷ parts_in later)
-    ∙ ap (λ n. sum_by amount (parts_in done) + n) (sum_by-cons amount (part_in part) (parts_in later))
-
-pub part_among : (P : PartOf Step → Type 0) (parts done rest later : List PartRoom) (part : PartRoom) → done ++ rest ≡ parts → rest ≡ part ∷ later → All P (parts_in parts) → P (part_in part)
-part_among P parts done rest later part is next all =
-    next_of P (parts_in parts) (parts_in done) (parts_in rest) (parts_in later) (part_in part) (sym (map-append part_in done rest) ∙ ap parts_in is) (ap parts_in next) all
-
-module _ {F : _} {g : _} {A : Type 0} (locks : Locks F g) (main now : Seat) (jobs jobs_now : QueueSeat) (parts : List PartRoom) (own : LaneReplies) (told : Vec LaneReplies A) (armed armed_now : ℕ) (done rest later : List PartRoom) (part : PartRoom)
-    (is : IsLiving locks main now jobs jobs_now parts own told armed armed_now done rest) (next : rest ≡ part ∷ later) where
-  pub calls_left : sum_by calls_in (parts_in parts) ≤ main.left → calls_in (part_in part) ≤ now.left
-  calls_left enough = let sum = sum_split calls_in parts done rest later part is.all next in omega (arith, sum, is.left, enough)
-
-  pub queued_left : sum_by queued_in (parts_in parts) ≤ jobs.left → queued_in (part_in part) ≤ jobs_now.left
-  queued_left enough = let sum = sum_split queued_in parts done rest later part is.all next in omega (arith, sum, is.queue_left, enough)
-
-  all_widths : widths (parts_in parts) ≡ widths (parts_in done) + (width (part_in part) + widths (parts_in later))
-  all_widths = ap widths (parts_split parts done rest later part is.all next) ∙ widths-append (parts_in done) (part_in part ∷ parts_in later)
-
-  pub numbers_left : main.children + widths (parts_in parts) < 2 ^ 32 → now.children + width (part_in part) < 2 ^ 32
-  numbers_left enough = let sum = all_widths in omega (arith, sum, is.dem.lived.children_is, enough)
-
-  pub job_numbers_left : jobs.children + widths (parts_in parts) < 2 ^ 32 → jobs_now.children + width (part_in part) < 2 ^ 32
-  job_numbers_left enough = let sum = all_widths in omega (arith, sum, is.queue.lived.children_is, enough)
-
-  pub told_left : vec_len told + width (part_in part) ≤ vec_capacity told
-  told_left = let sum = all_widths in omega (arith, sum, is.told_len, is.told_room)
-
-  pub own_left : HasRoomForSteps own (own_steps (part_in part ∷ parts_in later))
-  own_left = subst (λ l. HasRoomForSteps own (own_steps (parts_in l))) next is.own_room
-
-  pub own_next : HasRoomForSteps own (own_steps (part_in part ∷ []))
-  own_next = room_of_part own (part_in part) (parts_in later) own_left
-
-  pub living_more : (after : Seat) (jobs_after : QueueSeat) (own_after : LaneReplies) (told_after : Vec LaneReplies A) (armed_after : ℕ) (mine : List Told) (others : List (List Told))
-      → Gains now after jobs_now jobs_after (part_in part) mine others (told_in own) (told_in own_after) (map told_in told.items) (map told_in told_after.items) → IsSeatOf locks.dem after → turn.IsSeatOf locks.queue.turn jobs_after
-      → now.left ≤ after.left + calls_in (part_in part) → jobs_now.left ≤ jobs_after.left + queued_in (part_in part)
-      → armed_after ≤ armed_now + arms_in (part_in part) → vec_len own_after.answers ≤ vec_len own.answers + 1 → HasRoomForSteps own_after (own_steps (parts_in later))
-      → vec_len told_after ≡ vec_len told + width (part_in part) → vec_capacity told_after ≡ vec_capacity told → IsLiving locks main after jobs jobs_after parts own_after told_after armed armed_after (done ++ part ∷ []) later
-  living_more after jobs_after own_after told_after armed_after mine others gains seat queue_seat left queue_left arms own_len own_room told_len told_room =
-      let rooms : parts_in (done ++ part ∷ []) ≡ parts_in done ++ part_in part ∷ [] = map-append part_in done (part ∷ []) in
-      let sum = ap (sum_by calls_in) rooms ∙ sum_by_push calls_in (parts_in done) (part_in part) in
-      let queue_sum = ap (sum_by queued_in) rooms ∙ sum_by_push queued_in (parts_in done) (part_in part) in
-      let arm_sum = ap (sum_by arms_in) rooms ∙ sum_by_push arms_in (parts_in done) (part_in part) in
-      let wide : widths (parts_in (done ++ part ∷ [])) ≡ widths (parts_in done) + width (part_in part) = ap widths rooms ∙ widths_more (parts_in done) (part_in part) in
-      let count = length-append done (part ∷ []) in
-      let dem = run_more MayBeAsked reply_after StepMakes calls_by main now after (parts_in done) (told_in own) (map told_in told.items) (part_in part) mine others is.dem gains.dem in
-      let queued_too = run_more queue.IsAdmitted queued.reply_after StepQueues queued_by jobs jobs_now jobs_after (parts_in done) (told_in own) (map told_in told.items) (part_in part) mine others is.queue gains.queue in
+module _ {B : Type 0} {b : Ghosts B} (c : Config) (seats : Seats) (store : Store B b) where
+  -- None yet.
+  pub lived_none : (answers : LifeAnswers) → IsMain seats.dem → IsMain seats.queue → told_in answers.own ≡ [] → (answers.told.items ≡ []) × (vec_len answers.told ≡ 0) → HaveLivedParts c seats seats store store answers []
+  lived_none answers main jobs no_own none_told =
+      let no_lanes : map told_in answers.told.items ≡ [] = ap (map told_in) none_told.0 in
       record {
-        all = append_assoc done (part ∷ []) later ∙ ap (λ l. done ++ l) (sym next) ∙ is.all;
-        dem = subst (λ l. DemParts main after l (told_in own_after) (map told_in told_after.items)) (sym rooms)
-            (subst (λ l. DemParts main after (parts_in done ++ part_in part ∷ []) l (map told_in told_after.items)) (sym gains.own_are)
-            (subst (λ l. DemParts main after (parts_in done ++ part_in part ∷ []) (told_in own ++ mine) l) (sym gains.lanes_are) dem));
-        queue = subst (λ l. QueueParts jobs jobs_after l (told_in own_after) (map told_in told_after.items)) (sym rooms)
-            (subst (λ l. QueueParts jobs jobs_after (parts_in done ++ part_in part ∷ []) l (map told_in told_after.items)) (sym gains.own_are)
-            (subst (λ l. QueueParts jobs jobs_after (parts_in done ++ part_in part ∷ []) (told_in own ++ mine) l) (sym gains.lanes_are) queued_too));
-        seat = seat;
-        queue_seat = queue_seat;
-        left = omega (arith, sum, left, is.left);
-        queue_left = omega (arith, queue_sum, queue_left, is.queue_left);
-        arms = omega (arith, arm_sum, arms, is.arms);
-        own_len = omega (arith, own_len, is.own_len, count);
-        own_room = own_room;
-        told_len = omega (arith, told_len, is.told_len, wide);
-        told_room = omega (arith, told_room, is.told_room);
+        ran = record {
+          dem = runs_none MayBeAsked reply_after StepMakes calls_by seats.dem _ _ main no_own no_lanes;
+          queue = runs_none queue.IsAdmitted queued.reply_after StepQueues queued_by seats.queue _ _ jobs no_own no_lanes;
+        };
+        told_len = none_told.1;
+        carries = carries_beside c seats.dem seats.dem seats.queue seats.queue [] store (λ known is. is) (λ known is. is);
+        goes_on = goes_nowhere (driver_of store);
+        given = none_given (driver_of store).device.bench.arms;
+        armed = omega arith;
       }
 
-  -- The deeds of one part more.
-  pub deeds_with : (own_after : LaneReplies) (told_after : Vec LaneReplies A) (mine : List Told) (others : List (List Told)) → told_in own_after ≡ told_in own ++ mine → map told_in told_after.items ≡ map told_in told.items ++ others
-      → reverse (deeds_in (parts_in (done ++ part ∷ [])) (told_in own_after) (map told_in told_after.items))
-      ≡ reverse (deeds_in (part_in part ∷ []) mine others) ++ reverse (deeds_in (parts_in done) (told_in own) (map told_in told.items))
-  deeds_with own_after told_after mine others own_are lanes_are =
-      let own_count = all_own_count StepMakes (main.children + 1) (parts_in done) (told_in own) (map told_in told.items) is.dem.blocks is.dem.made in
-      let lanes_count = all_lanes_count StepMakes (main.children + 1) (parts_in done) (told_in own) (map told_in told.items) is.dem.blocks is.dem.made in
-      (λ i. reverse (deeds_in (map-append part_in done (part ∷ []) i) (own_are i) (lanes_are i)))
-      ∙ ap reverse (deeds_more (parts_in done) (told_in own) (map told_in told.items) (part_in part) mine others own_count lanes_count)
-      ∙ reverse-append (deeds_in (parts_in done) (told_in own) (map told_in told.items)) (deeds_in (part_in part ∷ []) mine others)
+  -- One part more.
+  pub lived_more : (now after : Seats) (then next : Store B b) (answers kept : LifeAnswers) (parts : List (PartOf Step)) (part : PartOf Step) → HaveLivedParts c seats now store then answers parts
+      → GainsPart c now.dem after.dem now.queue after.queue part (told_in answers.own) (told_in kept.own) (map told_in answers.told.items) (map told_in kept.told.items) then next
+      → vec_len kept.told ≡ vec_len answers.told + width part → HaveLivedParts c seats after store next kept (parts ++ part ∷ [])
+  lived_more now after then next answers kept parts part so_far gains told_len =
+      let own = told_in answers.own in
+      let lanes = map told_in answers.told.items in
+      let more = gains.gains in
+      let ran = so_far.ran in
+      let arm_sum = sum_by_push arms_in parts part in
+      let wide = widths_more parts part in
+      let before = reverse (deeds_in parts own lanes) in
+      let gained = reverse (deeds_in (part ∷ []) gains.mine gains.others) in
+      let own_count = all_own_count StepMakes (seats.dem.children + 1) parts own lanes ran.dem.blocks ran.dem.made in
+      let lanes_count = all_lanes_count StepMakes (seats.dem.children + 1) parts own lanes ran.dem.blocks ran.dem.made in
+      let deeds : reverse (deeds_in (parts ++ part ∷ []) (told_in kept.own) (map told_in kept.told.items)) ≡ gained ++ before =
+      (λ i. reverse (deeds_in (parts ++ part ∷ []) (more.own_are i) (more.lanes_are i)))
+      ∙ ap reverse (deeds_more parts own lanes part gains.mine gains.others own_count lanes_count)
+      ∙ reverse-append (deeds_in parts own lanes) (deeds_in (part ∷ []) gains.mine gains.others) in
+      record {
+        ran = record {
+          dem = runs_more MayBeAsked reply_after StepMakes calls_by seats.dem now.dem after.dem parts own lanes part gains.mine gains.others _ _ ran.dem more.dem more.own_are more.lanes_are;
+          queue = runs_more queue.IsAdmitted queued.reply_after StepQueues queued_by seats.queue now.queue after.queue parts own lanes part gains.mine gains.others _ _ ran.queue more.queue more.own_are more.lanes_are;
+        };
+        told_len = omega (arith, told_len, so_far.told_len, wide);
+        carries = subst (λ (l : List Deed). Carries c seats.dem after.dem seats.queue after.queue [] l store next) (sym deeds)
+            (carries_further c seats.dem now.dem after.dem seats.queue now.queue after.queue [] before (gained ++ before) store then next ran.dem.lived.start_is so_far.carries (gains.carries before));
+        goes_on = goes_further (driver_of store) (driver_of then) (driver_of next) so_far.goes_on gains.goes_on;
+        given = subst (λ (l : List Arm). WereGiven l (driver_of store).device.bench.arms (driver_of next).device.bench.arms) (sym (arms_more_parts parts part))
+            (given_further _ _ (driver_of store).device.bench.arms (driver_of then).device.bench.arms (driver_of next).device.bench.arms so_far.given gains.given);
+        armed = omega (arith, arm_sum, so_far.armed, gains.armed);
+      }

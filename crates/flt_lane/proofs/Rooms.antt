@@ -1,14 +1,14 @@
 -- The lanes of a life, handed out to its blocks.
-use Rattle.std.proofs.Common.{◌≡◌, inl, inr, ℕ, suc, ◌<◌, ◌+◌, List, [], ◌∷◌, ◌++◌, length, map, take, drop, get_or, drop-cons, add-one, arith, refl, sym, ap, ◌∙◌}
-use Rattle.std.proofs.lemmas.List.{append-nil, length-map, map-append, map_more}
+use Rattle.std.proofs.Common.{◌≡◌, inl, inr, List, [], ◌∷◌, ◌++◌, All, length, map, arith, append_assoc, refl, sym, ap, subst, ◌∙◌}
+use Rattle.std.proofs.lemmas.List.{length-map, map-append}
+use Rattle.std.proofs.lemmas.List.Elements.{All-append, All-cons, All-head, All-nil, All-tail}
 use Rattle.flt_step.specs.declared.step.Step.{Step}
-use Rattle.flt_step.specs.declared.step.Part.{Part}
-use Rattle.flt_step.specs.Part.{PartOf, part_of, parts_of}
+use Rattle.flt_step.specs.Part.{PartOf}
 use Rattle.flt_life_model.specs.declared.room.LaneRoom.{LaneRoom}
 use Rattle.flt_life_model.specs.Parts.{lanes_in}
-use Rattle.flt_life_model.specs.Room.{steps_of}
-use Rattle.flt_lane.specs.declared.room.PartRoom.{PartRoom}
-use Rattle.flt_lane.specs.Room.{part_in}
+use Rattle.flt_life_model.specs.Room.{IsLaneRoom, steps_of}
+use Rattle.flt_lane.specs.declared.room.BlockRoom.{BlockRoom}
+use Rattle.flt_lane.specs.Room.{AreRoomsOf, IsBlockRoom, blocks_in, lanes_of}
 
 -- Two lists in one another's place, of which the first pieces are as long.
 record AreSame {X : Type 0} (xs ys first second : List X) : Type 0 where
@@ -30,26 +30,62 @@ pub record AreTaken (block : List (List Step)) (rooms left : List LaneRoom) (lat
   pub taken : steps_of rooms ≡ block
   pub rest : steps_of left ≡ later
 
-pub taken_rooms : (block later : List (List Step)) (all rooms left : List LaneRoom) → rooms ++ left ≡ all → length rooms ≡ length block → steps_of all ≡ lanes_in (inr block ∷ []) ++ later → AreTaken block rooms left later
+pub taken_rooms : (block later : List (List Step)) (all rooms left : List LaneRoom) → rooms ++ left ≡ all → length rooms ≡ length block → steps_of all ≡ block ++ later → AreTaken block rooms left later
 taken_rooms block later all rooms left are count is =
-    let pieces : steps_of rooms ++ steps_of left ≡ block ++ later =
-    sym (map-append (λ (r : LaneRoom). r.steps.now) rooms left) ∙ ap steps_of are ∙ is ∙ ap (λ l. l ++ later) (append-nil block) in
+    let pieces : steps_of rooms ++ steps_of left ≡ block ++ later = sym (map-append (λ (r : LaneRoom). r.steps.now) rooms left) ∙ ap steps_of are ∙ is in
     let long : length (steps_of rooms) ≡ length block = length-map rooms (λ (r : LaneRoom). r.steps.now) ∙ count in
     let same = same_pieces (steps_of rooms) (steps_of left) block later pieces long in
     record { taken = same.front; rest = same.back }
 
-lanes-append : (part : PartOf Step) (later : List (PartOf Step)) → lanes_in (part ∷ later) ≡ lanes_in (part ∷ []) ++ lanes_in later
-lanes-append (inl step) later = refl
-lanes-append (inr lanes) later = ap (λ l. l ++ lanes_in later) (sym (append-nil lanes))
+-- ---- the rooms of blocks
 
--- The next part, and the later ones.
-pub next_lanes : (parts : List Part) (index : ℕ) (part : Part) → index < length parts → part ≡ get_or parts index part
-    → lanes_in (parts_of (drop index parts)) ≡ lanes_in (part_of part ∷ []) ++ lanes_in (parts_of (drop (index + 1) parts))
-next_lanes parts index part within is =
-    rw (drop-cons parts index part within, add-one) (ap (λ (p : Part). lanes_in (part_of p ∷ parts_of (drop (suc index) parts))) (sym is) ∙ lanes-append (part_of part) (parts_of (drop (suc index) parts)))
+-- The next room is that of the block, and the others are those of the later blocks.
+pub record IsNextRoom (part : PartOf Step) (room : BlockRoom) (later : List (PartOf Step)) (left : List BlockRoom) : Type 0 where
+  pub part_is : part ≡ inr (lanes_of room)
+  pub ready : IsBlockRoom room
+  pub rooms_are : AreRoomsOf later left
 
--- One part more has its room.
-pub parts_more : (rooms : List PartRoom) (room : PartRoom) (parts : List Part) (index : ℕ) (part : Part) → map part_in rooms ≡ parts_of (take index parts) → part_in room ≡ part_of part → index < length parts
-    → part ≡ get_or parts index part → map part_in (rooms ++ room ∷ []) ≡ parts_of (take (index + 1) parts)
-parts_more rooms room parts index part are same within is =
-    map-append part_in rooms (room ∷ []) ∙ (λ i. are i ++ same i ∷ []) ∙ ap (λ (p : Part). parts_of (take index parts) ++ part_of p ∷ []) is ∙ sym (map_more part_of parts index part within)
+pub next_room : (part : PartOf Step) (block : List (List Step)) (later : List (PartOf Step)) (room : BlockRoom) (rooms left : List BlockRoom) → part ≡ inr block → rooms ≡ room ∷ left → AreRoomsOf (part ∷ later) rooms
+    → IsNextRoom part room later left
+next_room part block later room rooms left is next are =
+    let all : lanes_of room ∷ map lanes_of left ≡ block ∷ blocks_in later = ap (map lanes_of) (sym next) ∙ are.lanes_are ∙ ap (λ p. blocks_in (p ∷ later)) is in
+    let same : lanes_of room ≡ block = cc in
+    let ready = subst (All IsBlockRoom) next are.ready in
+    record {
+      part_is = is ∙ ap (λ l. inr l) (sym same);
+      ready = All-head IsBlockRoom room left ready;
+      rooms_are = record { lanes_are = cc; ready = All-tail IsBlockRoom room left ready };
+    }
+
+-- Some parts have their rooms, and these are left, with the lanes of theirs.
+pub record AreHandedOut (parts left : List (PartOf Step)) (rooms : List BlockRoom) (lanes : List LaneRoom) : Type 0 where
+  pub blocks : map lanes_of rooms ++ blocks_in left ≡ blocks_in parts
+  pub rooms_ready : All IsBlockRoom rooms
+  pub lanes_are : steps_of lanes ≡ lanes_in left
+  pub ready : All IsLaneRoom lanes
+
+-- A step needs none.
+pub hand_none : (step : Step) (parts left later : List (PartOf Step)) (rooms : List BlockRoom) (lanes : List LaneRoom) → left ≡ inl step ∷ later → AreHandedOut parts left rooms lanes → AreHandedOut parts later rooms lanes
+hand_none step parts left later rooms lanes next so_far = record {
+  blocks = ap (λ l. map lanes_of rooms ++ blocks_in l) (sym next) ∙ so_far.blocks;
+  rooms_ready = so_far.rooms_ready;
+  lanes_are = so_far.lanes_are ∙ ap lanes_in next;
+  ready = so_far.ready;
+}
+
+-- A block has one more.
+pub hand_more : (block : List (List Step)) (parts left later : List (PartOf Step)) (rooms : List BlockRoom) (lanes : List LaneRoom) (room : BlockRoom) (others : List LaneRoom) → left ≡ inr block ∷ later → AreHandedOut parts left rooms lanes
+    → steps_of room.lanes.items ≡ block → IsBlockRoom room → steps_of others ≡ lanes_in later → All IsLaneRoom others → AreHandedOut parts later (rooms ++ room ∷ []) others
+hand_more block parts left later rooms lanes room others next so_far is room_ready others_are others_ready = record {
+  blocks = ap (λ l. l ++ blocks_in later) (map-append lanes_of rooms (room ∷ []))
+      ∙ append_assoc (map lanes_of rooms) (lanes_of room ∷ []) (blocks_in later)
+      ∙ ap (λ l. map lanes_of rooms ++ l ∷ blocks_in later) is
+      ∙ ap (λ l. map lanes_of rooms ++ blocks_in l) (sym next) ∙ so_far.blocks;
+  rooms_ready = All-append IsBlockRoom rooms (room ∷ []) so_far.rooms_ready (All-cons IsBlockRoom room [] room_ready (All-nil IsBlockRoom));
+  lanes_are = others_are;
+  ready = others_ready;
+}
+
+-- The lanes of the next block are the next ones.
+pub next_lanes : (block : List (List Step)) (parts left later : List (PartOf Step)) (rooms : List BlockRoom) (lanes : List LaneRoom) → left ≡ inr block ∷ later → AreHandedOut parts left rooms lanes → steps_of lanes ≡ block ++ lanes_in later
+next_lanes block parts left later rooms lanes next so_far = so_far.lanes_are ∙ ap lanes_in next

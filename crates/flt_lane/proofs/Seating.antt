@@ -7,7 +7,6 @@ use Rattle.flt_step.specs.declared.step.Step.{Step}
 use Rattle.flt_turn.specs.Seats.{split_off, split_seat}
 use Rattle.flt_fork.specs.Passed.{HavePassed}
 use Rattle.flt_fork.specs.Seats.{IsSplitOff}
-use Rattle.flt_fork.proofs.Blocks.{all_right}
 use Rattle.flt_fork.proofs.Passed.{joined_seats, joins_on, passed_alone, passed_behind, passed_each, passed_same, split_main, split_seats, splits_on, splits_with}
 use Rattle.flt_shared.specs.Call.{Seat}
 use Rattle.flt_life_model.specs.Parts.{calls_of, queued_of}
@@ -21,10 +20,6 @@ use Rattle.flt_lane.specs.Room.{IsLaneFor, all_calls, all_queued}
 use Rattle.flt_lane.specs.Runs.{QueueSeat}
 use Rattle.flt_lane.specs.Seating.{AreSeated, CanJoin, CanSeat, HaveJoined, IsJoined, IsSeated}
 use Rattle.flt_lane.specs.Work.{AreSeatsOf, IsPrepared}
-
--- What holds of each lane, holds of the next.
-pub next_of : {X : Type 0} (P : X → Type 0) (all done rest later : List X) (x : X) → done ++ rest ≡ all → rest ≡ x ∷ later → All P all → P x
-next_of P all done rest later x is next holds = All-head P x later (subst (All P) next (all_right P done rest (subst (All P) (sym is) holds)))
 
 pub none_told : (replies : LaneReplies) → IsEmpty replies → told_in replies ≡ []
 none_told replies empty = rw empty.answers refl

@@ -1,12 +1,16 @@
 -- What the lanes of a block leave: of their main seats, of the answers, and of the store.
-use Rattle.std.specs.Prelude.{List, [], ◌∷◌, ◌++◌, reverse}
+use Rattle.std.specs.Prelude.{◌+◌, ◌≤◌, List, [], ◌∷◌, ◌++◌, reverse}
 use Rattle.flt_flash.specs.declared.blocks.Blocks.{Ghosts}
 use Rattle.flt_config.specs.declared.config.Config.{Config}
 use Rattle.flt_step.specs.declared.step.Step.{Step}
 use Rattle.flt_step.specs.Part.{PartOf}
 use Rattle.flt_store.specs.declared.store.Store.{Store}
+use Rattle.flt_store.specs.Store.{driver_of}
+use Rattle.flt_life_model.specs.Actions.{all_arms}
 use Rattle.flt_life_model.specs.Answers.{Told}
+use Rattle.flt_life_model.specs.Going.{GoesOn, WereGiven}
 use Rattle.flt_life_model.specs.Ordered.{Deed, block_deeds, deeds_in}
+use Rattle.flt_life_model.specs.Parts.{arms_in, own_actions}
 use Rattle.flt_shared.specs.Call.{Seat}
 use Rattle.flt_lane.specs.Block.{Gains, RunsLanes}
 use Rattle.flt_lane.specs.Living.{Carries}
@@ -21,10 +25,13 @@ module _ {B : Type 0} {b : Ghosts B} where
     pub carries : (earlier : List Deed) → Carries c main after jobs jobs_after earlier (reverse (block_deeds lanes run.others) ++ earlier) store now
     pub leaves : LeavesStore store now
 
-  -- A part was carried out, and so its deeds.
+  -- A part was carried out, and so its deeds, and its arms were made.
   pub record GainsPart (c : Config) (main after : Seat) (jobs jobs_after : QueueSeat) (part : PartOf Step) (own own_after : List Told)
       (lanes lanes_after : List (List Told)) (store now : Store B b) : Type 0 where
     pub mine : List Told
     pub others : List (List Told)
     pub gains : Gains main after jobs jobs_after part mine others own own_after lanes lanes_after
     pub carries : (earlier : List Deed) → Carries c main after jobs jobs_after earlier (reverse (deeds_in (part ∷ []) mine others) ++ earlier) store now
+    pub goes_on : GoesOn (driver_of store) (driver_of now)
+    pub given : WereGiven (all_arms (own_actions (part ∷ []))) (driver_of store).device.bench.arms (driver_of now).device.bench.arms
+    pub armed : (driver_of now).device.bench.armed ≤ (driver_of store).device.bench.armed + arms_in part

@@ -8,3 +8,4 @@ pub mod Living
 pub mod Stored
 pub mod Draining
 pub mod BlockRun
+pub mod Parts

@@ -1,5 +1,5 @@
 -- What is ready before a life begins.
-use Rattle.std.specs.Prelude.{◌≡◌, ℕ, ◌≤◌, List, [], All, length, sum_by, vec_len}
+use Rattle.std.specs.Prelude.{◌≡◌, ℕ, ◌≤◌, List, [], ◌∷◌, All, length, map, sum_by, vec_len}
 use Rattle.std.proofs.Common.{inl, inr}
 use Rattle.std.specs.Vec.{vec_capacity}
 use Rattle.flt_config.specs.declared.config.Config.{Config}
@@ -10,8 +10,6 @@ use Rattle.flt_life_model.specs.Actions.{IsPossible, action_of}
 use Rattle.flt_life_model.specs.Parts.{IsPossibleInLane, calls_of, queued_of}
 use Rattle.flt_life_model.specs.Room.{IsLaneRoom, steps_of}
 use Rattle.flt_lane.specs.declared.room.BlockRoom.{BlockRoom}
-use Rattle.flt_lane.specs.declared.room.PartRoom.{PartRoom}
-use Rattle.flt_lane.specs.declared.room.PartRoom.TheVariants.{One, Lanes}
 
 -- The lanes are ready, with room for the seats of each.
 pub record IsBlockRoom (block : BlockRoom) : Type 0 where
@@ -20,15 +18,20 @@ pub record IsBlockRoom (block : BlockRoom) : Type 0 where
   pub none : vec_len block.works ≡ 0
   pub room : length block.lanes.items ≤ vec_capacity block.works
 
--- A part whose lanes are ready, with room for the seats of each.
-abbrev pub IsPartRoom : PartRoom → Type 0
-IsPartRoom (One step) = Unit {0}
-IsPartRoom (Lanes block) = IsBlockRoom block.value
+-- The steps of the lanes of a block.
+abbrev pub lanes_of : BlockRoom → List (List Step)
+lanes_of room = steps_of room.lanes.items
 
--- The part that it is.
-abbrev pub part_in : PartRoom → PartOf Step
-part_in (One step) = inl step.now
-part_in (Lanes block) = inr (steps_of block.value.lanes.items)
+-- The lanes of each block, in order.
+abbrev pub blocks_in : List (PartOf Step) → List (List (List Step))
+blocks_in [] = []
+blocks_in (inl step ∷ parts) = blocks_in parts
+blocks_in (inr lanes ∷ parts) = lanes ∷ blocks_in parts
+
+-- Each block of these parts has its room, in order.
+pub record AreRoomsOf (parts : List (PartOf Step)) (rooms : List BlockRoom) : Type 0 where
+  pub lanes_are : map lanes_of rooms ≡ blocks_in parts
+  pub ready : All IsBlockRoom rooms
 
 -- How many calls lanes make at most of the status machine, and of the queue.
 abbrev pub all_calls : List (List Step) → ℕ

@@ -2,10 +2,10 @@
 //! block make theirs at the same time as one another, at most one of them over the store.
 //!
 //! Stands on `flt_fork` for lanes at once, on `flt_shared` and `flt_queue` for the locks, on `flt_store`, and on `flt_life_model` for what a
-//! life is told in and for what goes on in it. The layer above, `flt_run`, takes the memory of a life by `part_rooms` and carries
+//! life is told in and for what goes on in it. The layer above, `flt_run`, takes the memory of the blocks of a life by `block_rooms` and carries
 //! out its parts by `run_parts`; what the journal and the answers of a life are is said in `specs/Played.antt` of `flt_life_model`.
-//! Read `specs/Living.antt` first (what the saves leave while a life goes on), then `specs/Block.antt`. What holds of lanes over any
-//! machine stands in `flt_fork`.
+//! Read `specs/Living.antt` first (what the saves leave while a life goes on), then `specs/Block.antt` and `specs/Parts.antt`. What holds
+//! of lanes over any machine stands in `flt_fork`.
 #![tactic(auto)]
 
 mod block;
@@ -21,4 +21,4 @@ pub use gate::{Gate, OpenGate, SharedGate};
 pub use lane::{LaneWork, run_block};
 pub use living::{LifeAnswers, run_parts};
 pub use locks::{Common, Locks, Seats};
-pub use room::{BlockRoom, PartRoom, next_lanes, part_rooms};
+pub use room::{BlockRoom, block_rooms, next_lanes};

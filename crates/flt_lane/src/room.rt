@@ -1,10 +1,10 @@
 //! What the blocks of a life take of memory: all of it at its start.
-ghost use Rattle.std.specs.Prelude.{◌≡◌, ◌≤◌, ◌++◌, ◌∷◌, [], List, All, IfOk, OnOk, length, map};
+ghost use Rattle.std.specs.Prelude.{◌≡◌, ◌≤◌, ◌++◌, List, All, IfOk, OnOk, length, map};
 ghost use Rattle.flt_life_model.specs.Parts.{lanes_in};
 ghost use Rattle.flt_life_model.specs.Room.{IsLaneRoom, steps_of};
-ghost use Rattle.flt_step.specs.Part.{part_of, parts_of};
+ghost use Rattle.flt_step.specs.Part.{parts_of};
 ghost use Rattle.flt_step.specs.declared.step.Step.{Step};
-ghost use Rattle.flt_lane.specs.Room.{IsPartRoom, part_in};
+ghost use Rattle.flt_lane.specs.Room.{AreRoomsOf, IsBlockRoom};
 
 use crate::lane::LaneWork;
 use flt_life_model::LaneRoom;
@@ -17,13 +17,6 @@ use std::vec::IntoIter;
 pub struct BlockRoom<'a> {
     pub lanes: Vec<LaneRoom<'a>>,
     pub works: Vec<LaneWork<'a>>,
-}
-
-/// A part of a life, with the memory that it needs. A block's lies in a box, so that a step's part is small.
-#[derive(Drop)]
-pub enum PartRoom<'a> {
-    One(&'a Step),
-    Lanes(Box<BlockRoom<'a>>),
 }
 
 /// Takes the next lanes, so many.
@@ -46,47 +39,42 @@ pub fn next_lanes<'a>(
     Ok(rooms)
 }
 
-/// A part with its lanes, which are the next ones.
-fn part_room<'a>(
+/// A block with its lanes, which are the next ones, and with room for their seats.
+fn block_room<'a>(
     alloc: Global,
-    part: &'a Part,
+    block: &[Vec<Step>],
     lanes: &mut IntoIter<LaneRoom<'a>>,
-) -> Result<PartRoom<'a>, AllocError>
-    requires lanes { (later : List (List Step)) × (steps_of lanes.old.rest.items ≡ lanes_in (part_of part.now ∷ []) ++ later) }
+) -> Result<BlockRoom<'a>, AllocError>
+    requires lanes { (later : List (List Step)) × (steps_of lanes.old.rest.items ≡ map (λ lane. lane.items) block.now ++ later) }
     requires ready { All IsLaneRoom lanes.old.rest.items }
-    ensures part { IfOk result (λ room. part_in room ≡ part_of part.now) }
-    ensures room { IfOk result IsPartRoom }
-    ensures later { OnOk result ((later : List (List Step)) → steps_of lanes.old.rest.items ≡ lanes_in (part_of part.now ∷ []) ++ later
+    ensures lanes { IfOk result (λ room. steps_of room.lanes.items ≡ map (λ lane. lane.items) block.now) }
+    ensures room { IfOk result IsBlockRoom }
+    ensures later { OnOk result ((later : List (List Step)) → steps_of lanes.old.rest.items ≡ map (λ lane. lane.items) block.now ++ later
         → steps_of lanes.new.rest.items ≡ later) }
     ensures ready { OnOk result (All IsLaneRoom lanes.new.rest.items) }
 {
-    match part {
-        Part::One(step) => Ok(PartRoom::One(step)),
-        Part::Lanes(block) => {
-            let lanes = next_lanes(alloc, block.len(), lanes)?;
-            let works = Vec::with_capacity(alloc, block.len())?;
-            let room = Box::new(alloc, BlockRoom { lanes, works })?;
-            Ok(PartRoom::Lanes(room))
-        }
-    }
+    let lanes = next_lanes(alloc, block.len(), lanes)?;
+    let works = Vec::with_capacity(alloc, block.len())?;
+    Ok(BlockRoom { lanes, works })
 }
 
-/// The parts of a life, each block with its lanes, and with room for their seats.
-pub fn part_rooms<'a>(
+/// The blocks of a life, each with its lanes, and with room for their seats.
+pub fn block_rooms<'a>(
     alloc: Global,
-    parts: &'a [Part],
+    parts: &[Part],
     lanes: Vec<LaneRoom<'a>>,
-) -> Result<Vec<PartRoom<'a>>, AllocError>
+) -> Result<Vec<BlockRoom<'a>>, AllocError>
     requires lanes { steps_of lanes.items ≡ lanes_in (parts_of parts.now) }
     requires ready { All IsLaneRoom lanes.items }
-    ensures parts { IfOk result (λ rooms. map part_in rooms.items ≡ parts_of parts.now) }
-    ensures ready { IfOk result (λ rooms. All IsPartRoom rooms.items) }
+    ensures { IfOk result (λ rooms. AreRoomsOf (parts_of parts.now) rooms.items) }
 {
     let mut lanes = lanes.into_iter();
-    let mut rooms = Vec::with_capacity(alloc, parts.len())?;
+    let mut rooms = Vec::new(alloc);
     for part in parts {
-        let room = part_room(alloc, part, &mut lanes)?;
-        rooms.push(room)?;
+        if let Part::Lanes(block) = part {
+            let room = block_room(alloc, block, &mut lanes)?;
+            rooms.push(room)?;
+        }
     }
     Ok(rooms)
 }

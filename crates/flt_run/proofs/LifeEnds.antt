@@ -1,5 +1,5 @@
 -- The end of a life on two locks: what it was made of, and what it leaves.
-use Rattle.std.proofs.Common.{◌≡◌, inl, inr, ℕ, ◌≤◌, List, [], ◌∷◌, All, map, reverse, length, sym, ap, subst, arith}
+use Rattle.std.proofs.Common.{◌≡◌, inl, inr, ℕ, ◌≤◌, List, [], ◌∷◌, All, map, reverse, length, sym, ap, subst, arith, ◌∙◌}
 use Rattle.std.specs.Prelude.{sum_by}
 use Rattle.std.proofs.lemmas.List.{reverse-reverse}
 use Rattle.std.proofs.lemmas.List.Sums.{sum_by-cons}
@@ -64,6 +64,9 @@ parts_for c (part ∷ parts) possible few =
 pub same_blocks : (c d : Config) → c ≡ d → c.blocks ≡ d.blocks
 same_blocks c d same = ap (λ (k : Config). k.blocks) same
 
+pub starts_from : (c : Config) (state : Persist) (main : Seat) (lock : _) (start : Start) (room : ℕ) → main ≡ main_seat lock start room → start.config ≡ c → start.base ≡ state → main.start ≡ start_from c state
+starts_from c state main lock start room is same base = ap (λ (s : Seat). s.start) is ∙ (λ i. record { config = same i; base = base i })
+
 -- The journals of a life, which have no more calls of saves and of drains than its deeds.
 pub record HasEnded (start : Start) (parts : List (PartOf Step)) (own : List Told) (lanes : List (List Told)) (journal : Journal) (queue : List (Entry QueueOp)) : Type 0 where
   pub life : IsLife start parts own lanes journal queue
@@ -101,20 +104,18 @@ module _ {B : Type 0} {b : Ghosts B} where
     pub ended : HasEnded (start_from c state) parts own lanes journal queue
     pub carries : Carries c main after jobs jobs_after [] (reverse (deeds_in parts own lanes)) store now
 
-  -- The parts that were carried out are those of the life.
-  pub over_of : (c : Config) (state : Persist) (main after : Seat) (jobs jobs_after : QueueSeat) (given parts : List (PartOf Step)) (own : List Told) (lanes : List (List Told)) (journal : Journal) (queue : List (Entry QueueOp)) (store now : Store B b)
-      → main ≡ main_seat main.lock main.start main.left → jobs ≡ main_seat jobs.lock jobs.start jobs.left → main.start ≡ start_from c state → jobs.start ≡ c.blocks → given ≡ parts
-      → HaveRunParts main after jobs jobs_after given own lanes → CouldClose after journal → CouldClose jobs_after queue → Carries c main after jobs jobs_after [] (reverse (deeds_in given own lanes)) store now
+  pub over_of : (c : Config) (state : Persist) (main after : Seat) (jobs jobs_after : QueueSeat) (parts : List (PartOf Step)) (own : List Told) (lanes : List (List Told)) (journal : Journal) (queue : List (Entry QueueOp)) (store now : Store B b)
+      → main ≡ main_seat main.lock main.start main.left → jobs ≡ main_seat jobs.lock jobs.start jobs.left → main.start ≡ start_from c state → jobs.start ≡ c.blocks
+      → HaveRunParts main after jobs jobs_after parts own lanes → CouldClose after journal → CouldClose jobs_after queue → Carries c main after jobs jobs_after [] (reverse (deeds_in parts own lanes)) store now
       → IsOver c state main after jobs jobs_after parts own lanes journal queue store now
-  over_of c state main after jobs jobs_after given parts own lanes journal queue store now fresh jobs_fresh begins blocks same ran whole jobs_whole carries =
+  over_of c state main after jobs jobs_after parts own lanes journal queue store now fresh jobs_fresh begins blocks ran whole jobs_whole carries =
       let start = start_from c state in
-      let all : HaveRunParts main after jobs jobs_after parts own lanes = subst (λ l. HaveRunParts main after jobs jobs_after l own lanes) same ran in
       record {
         begins = begins;
         whole = whole;
         jobs_whole = jobs_whole;
-        ended = ended_by start parts own lanes journal queue (life_by start main after jobs jobs_after parts own lanes journal queue fresh jobs_fresh begins blocks all whole jobs_whole);
-        carries = subst (λ l. Carries c main after jobs jobs_after [] (reverse (deeds_in l own lanes)) store now) same carries;
+        ended = ended_by start parts own lanes journal queue (life_by start main after jobs jobs_after parts own lanes journal queue fresh jobs_fresh begins blocks ran whole jobs_whole);
+        carries = carries;
       }
 
   -- The generations that the store holds in the end.

@@ -1,16 +1,23 @@
--- What a part of a life leaves of the main seat.
-use Rattle.std.specs.Prelude.{◌≡◌, List, [], ◌∷◌, ◌++◌, All}
+-- What the parts of a life need of the main seat, and what they leave of it.
+use Rattle.std.specs.Prelude.{◌≡◌, ◌+◌, ◌<◌, ◌≤◌, ◌^◌, List, [], ◌∷◌, ◌++◌, All, sum_by}
 use Rattle.std.proofs.Common.{inl, inr}
 use Rattle.flt_config.specs.declared.config.Config.{Config}
+use Rattle.flt_fork.specs.Lived.{IsMain}
 use Rattle.flt_fork.specs.Runs.{HasRunBlock}
 use Rattle.flt_step.specs.declared.step.Step.{Step}
 use Rattle.flt_step.specs.Part.{PartOf}
 use Rattle.flt_shared.specs.Call.{Seat, reply_after}
+use Rattle.flt_life_model.specs.declared.room.LaneRoom.{LaneRoom}
 use Rattle.flt_life_model.specs.Answers.{Told}
+use Rattle.flt_life_model.specs.Parts.{calls_in, lanes_in, widths}
 use Rattle.flt_life_model.specs.Played.{StepMakes}
+use Rattle.flt_life_model.specs.Room.{IsLaneRoom, steps_of}
+use Rattle.flt_lane.specs.declared.living.LifeAnswers.{LifeAnswers}
 use Rattle.flt_lane.specs.Block.{HasRunPart, HasRunParts}
+use Rattle.flt_lane.specs.Parts.{HasRoomForParts}
 use Rattle.flt_lane.specs.Runs.{Makes}
-use Rattle.flt_watch.specs.Lane.{IsLaneFor, IsWatchable}
+use Rattle.flt_watch.specs.declared.lock.WatchLock.{WatchLock}
+use Rattle.flt_watch.specs.Lane.{IsLaneFor, IsSeatOf, IsWatchable}
 
 -- The lanes of a block were run, and their answers were put behind those of the lanes before.
 pub record RunsLanes (main after : Seat) (lanes : List (List Step)) (told told_after : List (List Told)) : Type 0 where
@@ -28,6 +35,17 @@ pub record HasStepped (main after : Seat) (step : Step) (own own_after : List To
 abbrev pub IsPartFor : Config → PartOf Step → Type 0
 IsPartFor config (inl step) = IsWatchable config step
 IsPartFor config (inr lanes) = All (IsLaneFor config) lanes
+
+-- These parts can be carried out: the main seat has their calls left, and numbers for their lanes, which are these, and there is room for their answers.
+pub record CanRunParts {F : _} {g : _} {H : _} {h : _} (lock : WatchLock F g H h) (main : Seat) (lanes : List LaneRoom) (answers : LifeAnswers) (parts : List (PartOf Step)) : Type 0 where
+  pub seat : IsSeatOf lock main
+  pub main_is : IsMain main
+  pub steps : All (IsPartFor main.start.config) parts
+  pub calls : sum_by calls_in parts ≤ main.left
+  pub numbers : main.children + widths parts < 2 ^ 32
+  pub lanes_are : steps_of lanes ≡ lanes_in parts
+  pub ready : All IsLaneRoom lanes
+  pub room : HasRoomForParts answers parts
 
 -- A part was carried out, and its answers were put behind those of lane 0 and of the lanes before.
 pub record Gains (main after : Seat) (part : PartOf Step) (own own_after : List Told) (lanes lanes_after : List (List Told)) : Type 0 where

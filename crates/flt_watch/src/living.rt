@@ -1,12 +1,10 @@
 //! The parts of a life, one after the other, on its lock.
-ghost use Rattle.std.specs.Prelude.{◌≡◌, ◌<◌, ◌≤◌, ◌+◌, ◌^◌, ◌++◌, ◌∷◌, [], List, All, OnOk, length, map, sum_by, vec_len};
-ghost use Rattle.std.specs.Vec.{vec_capacity};
-ghost use Rattle.flt_fork.specs.Lived.{IsMain};
+ghost use Rattle.std.specs.Prelude.{◌≡◌, ◌<◌, ◌≤◌, ◌+◌, ◌^◌, ◌∷◌, [], List, OnOk, map, vec_len};
 ghost use Rattle.flt_step.specs.Part.{PartOf, part_of, parts_of};
 ghost use Rattle.flt_step.specs.declared.step.Step.{Step};
-ghost use Rattle.flt_life_model.specs.Parts.{calls_in, lanes_in, own_steps, width, widths};
-ghost use Rattle.flt_life_model.specs.Room.{HasRoomForSteps, IsLaneRoom, steps_of, told_in};
-ghost use Rattle.flt_watch.specs.Block.{Gains, HasStepped, HaveRunParts, IsPartFor};
+ghost use Rattle.flt_life_model.specs.Parts.{width, widths};
+ghost use Rattle.flt_life_model.specs.Room.{HasRoomForSteps, told_in};
+ghost use Rattle.flt_watch.specs.Block.{CanRunParts, Gains, HasStepped, HaveRunParts};
 ghost use Rattle.flt_watch.specs.Lane.{IsSeatOf, IsWatchable};
 
 use crate::block::run_block;
@@ -34,7 +32,7 @@ fn run_one<R: Wait, G: Gate>(
     requires step { IsWatchable main.old.start.config step.now }
     requires left { 1 ≤ main.old.left }
     requires index { vec_len answers.old.own.answers < 2 ^ 32 }
-    requires room { HasRoomForSteps answers.old.own (step.now ∷ []) }
+    requires room { (rest : List Step) × HasRoomForSteps answers.old.own (step.now ∷ rest) }
     ensures stepped { HasStepped main.old main.new step.now (told_in answers.old.own) (told_in answers.new.own) }
     ensures lock { IsSeatOf lock.now main.new }
     ensures len { vec_len answers.new.own.answers ≡ vec_len answers.old.own.answers + 1 }
@@ -59,27 +57,12 @@ fn run_part<'a, R: Threads + Wait + Sync, G: Gate + Sync>(
     lanes: &mut IntoIter<LaneRoom<'a>>,
     answers: &mut LifeAnswers,
 ) -> Result<(), AllocError>
-    requires lock { IsSeatOf lock.now main.old × IsMain main.old }
-    requires steps { IsPartFor main.old.start.config (part_of part.now) }
-    requires calls { calls_in (part_of part.now) ≤ main.old.left }
-    requires children { main.old.children + width (part_of part.now) < 2 ^ 32 }
-    requires index { vec_len answers.old.own.answers < 2 ^ 32 }
-    requires own_room { HasRoomForSteps answers.old.own (own_steps (part_of part.now ∷ [])) }
-    requires told_room { vec_len answers.old.told + width (part_of part.now) ≤ vec_capacity answers.old.told }
-    requires lanes { (later : List (List Step)) × (steps_of lanes.old.rest.items ≡ lanes_in (part_of part.now ∷ []) ++ later) }
-    requires ready { All IsLaneRoom lanes.old.rest.items }
+    requires can { (rest : List (PartOf Step)) × CanRunParts lock.now main.old lanes.old.rest.items answers.old (part_of part.now ∷ rest) }
     ensures gains { OnOk result (Gains main.old main.new (part_of part.now) (told_in answers.old.own) (told_in answers.new.own)
         (map told_in answers.old.told.items) (map told_in answers.new.told.items)) }
-    ensures lock { OnOk result (IsSeatOf lock.now main.new) }
-    ensures left { OnOk result (main.old.left ≤ main.new.left + calls_in (part_of part.now)) }
-    ensures own_len { OnOk result (vec_len answers.new.own.answers ≤ vec_len answers.old.own.answers + 1) }
-    ensures own_room { OnOk result ((rest : List (PartOf Step)) → HasRoomForSteps answers.old.own (own_steps (part_of part.now ∷ rest))
-        → HasRoomForSteps answers.new.own (own_steps rest)) }
     ensures told_len { OnOk result (vec_len answers.new.told ≡ vec_len answers.old.told + width (part_of part.now)) }
-    ensures told_capacity { OnOk result (vec_capacity answers.new.told ≡ vec_capacity answers.old.told) }
-    ensures later { OnOk result ((later : List (List Step)) → steps_of lanes.old.rest.items ≡ lanes_in (part_of part.now ∷ []) ++ later
-        → steps_of lanes.new.rest.items ≡ later) }
-    ensures ready { OnOk result (All IsLaneRoom lanes.new.rest.items) }
+    ensures can { OnOk result ((rest : List (PartOf Step)) → CanRunParts lock.now main.old lanes.old.rest.items answers.old (part_of part.now ∷ rest)
+        → CanRunParts lock.now main.new lanes.new.rest.items answers.new rest) }
 {
     match part {
         Part::One(step) => {
@@ -106,17 +89,9 @@ pub(crate) fn run_parts<'a, R: Threads + Wait + Sync, G: Gate + Sync>(
     lanes: Vec<LaneRoom<'a>>,
     answers: &mut LifeAnswers,
 ) -> Result<(), AllocError>
-    requires lock { IsSeatOf lock.now main.old × IsMain main.old }
-    requires steps { All (IsPartFor main.old.start.config) (parts_of parts.now) }
-    requires calls { sum_by calls_in (parts_of parts.now) ≤ main.old.left }
-    requires children { main.old.children + widths (parts_of parts.now) < 2 ^ 32 }
-    requires indices { length parts.now < 2 ^ 32 }
-    requires no_answers { (told_in answers.old.own ≡ []) × (vec_len answers.old.own.answers ≡ 0) }
-    requires own_room { HasRoomForSteps answers.old.own (own_steps (parts_of parts.now)) }
+    requires can { CanRunParts lock.now main.old lanes.items answers.old (parts_of parts.now) }
+    requires no_answers { told_in answers.old.own ≡ [] }
     requires none_told { (answers.old.told.items ≡ []) × (vec_len answers.old.told ≡ 0) }
-    requires told_room { widths (parts_of parts.now) ≤ vec_capacity answers.old.told }
-    requires lanes { steps_of lanes.items ≡ lanes_in (parts_of parts.now) }
-    requires ready { All IsLaneRoom lanes.items }
     ensures lived { OnOk result (HaveRunParts main.old main.new (parts_of parts.now) (told_in answers.new.own) (map told_in answers.new.told.items)) }
     ensures lock { OnOk result (IsSeatOf lock.now main.new) }
     ensures told_len { OnOk result (vec_len answers.new.told ≡ widths (parts_of parts.now)) }

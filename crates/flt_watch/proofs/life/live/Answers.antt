@@ -1,10 +1,11 @@
-use Rattle.std.proofs.Common.{◌≡◌, List, map, reverse, sym, ap, subst, ◌∙◌}
-use Rattle.std.proofs.lemmas.List.{reverse-reverse}
+use Rattle.std.proofs.Common.{◌≡◌, List, All, length, map, reverse, arith, rules, sym, ap, subst, ◌∙◌}
+use Rattle.std.proofs.lemmas.List.{length-map, reverse-reverse}
+use Rattle.flt_config.specs.declared.config.Config.{Config}
 use Rattle.flt_model.specs.Start.{Start, fresh}
 use Rattle.flt_model.specs.declared.call.Op.{Op}
 use Rattle.flt_turn.specs.declared.vault.Entry.{Entry}
 use Rattle.flt_turn.specs.Journal.{ops_of}
-use Rattle.flt_step.specs.Part.{parts_of}
+use Rattle.flt_step.specs.Part.{part_of, parts_of}
 use Rattle.flt_life_model.specs.declared.life.Boot.TheVariants as boots
 use Rattle.flt_life_model.specs.Answers.{Told}
 use Rattle.flt_life_model.specs.Chain.{LifeView}
@@ -15,8 +16,34 @@ use Rattle.flt_shared.specs.Call.{Seat, reply_after}
 use Rattle.flt_fork.proofs.Closing.{closed, fresh_of}
 use Rattle.flt_lane.proofs.WholeLife.{made_of}
 use Rattle.flt_notify.specs.Table.{HasValuesOf}
+use Rattle.flt_watch.specs.Block.{IsPartFor}
 use Rattle.flt_watch.specs.Watched.{IsWatched}
 use Rattle.flt_watch.proofs.life.live.Goals as goal
+
+pub run_parts-requires-clause-can : goal.run_parts-requires-clause-can
+run_parts-requires-clause-can g c κs within =
+    let config = c.args.config.now in
+    let parts = c.args.parts.now in
+    let main = c.in_ok-lock.ensures.ok in
+    let same : c.in_ok-lock.main.start.config ≡ config = ap (λ (s : Seat). s.start.config) main ∙ c.in_ok-unit.ensures.config ∙ c.twin.ensures in
+    let calls = ap (λ (s : Seat). s.left) main in
+    let children = ap (λ (s : Seat). s.children) main in
+    let room = c.in_ok-own.ensures in
+    let count = length-map parts part_of in
+    record {
+      seat = c.in_ok-lock.ensures.lock;
+      main_is = search rules;
+      steps = subst (λ (config : Config). All (IsPartFor config) (parts_of parts)) (sym same) c.requires.steps;
+      calls = omega (arith, calls, c.for_parts-calls.ensures.machine);
+      numbers = omega (arith, children, c.requires.numbers);
+      lanes_are = room.lanes_are;
+      ready = room.ready;
+      room = record {
+        few = omega (arith, count, c.requires.indices, ap length room.own_empty.answers);
+        own = room.own_room;
+        told = omega (arith, room.none_told.1, room.told_room);
+      };
+    }
 
 pub returns-clause-boot : goal.returns-clause-boot
 returns-clause-boot g c = ap (λ (view : LifeView). view.boot) (c.life_of-life.ensures (parts_of c.args.parts.now)) ∙ ap (λ s. boots.Started 0 s) c.initial.ensures.value

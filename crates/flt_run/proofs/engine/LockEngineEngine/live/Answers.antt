@@ -1,5 +1,8 @@
-use Rattle.std.proofs.Common.{◌≡◌, All, map, reverse, sym, ap, subst, ◌∙◌}
-use Rattle.flt_step.specs.Part.{parts_of}
+use Rattle.std.proofs.Common.{length, map, reverse, arith, rules, sym, ap, subst, ◌∙◌}
+use Rattle.std.proofs.lemmas.List.{length-map}
+use Rattle.flt_config.specs.Durable.{Fits}
+use Rattle.flt_model.specs.Start.{Start}
+use Rattle.flt_step.specs.Part.{part_of, parts_of}
 use Rattle.flt_store.specs.Store.{driver_of, numbered}
 use Rattle.flt_life_model.specs.declared.life.Boot.TheVariants as boots
 use Rattle.flt_life_model.specs.Causes.{AreCaused}
@@ -8,18 +11,51 @@ use Rattle.flt_life_model.specs.Moment.{moment_of}
 use Rattle.flt_life_model.specs.Played.{IsLife, IsPlayed}
 use Rattle.flt_life_model.specs.Room.{told_in}
 use Rattle.flt_shared.specs.Call.{Seat}
-use Rattle.flt_lane.specs.Room.{IsPartFor}
 use Rattle.flt_lane.specs.Runs.{QueueSeat}
 use Rattle.flt_fork.proofs.Closing.{fresh_of, closed}
-use Rattle.flt_run.proofs.LifeEnds.{IsOver, caused_of, holds_of, left_of, over_of, parts_for, same_blocks, turned_life}
+use Rattle.flt_run.proofs.LifeEnds.{IsOver, caused_of, holds_of, left_of, over_of, parts_for, same_blocks, starts_from, turned_life}
 use Rattle.flt_run.proofs.engine.LockEngineEngine.live.Given as given
 use Rattle.flt_run.proofs.engine.LockEngineEngine.live.Goals as goal
 
-pub run_parts-requires-clause-steps : goal.run_parts-requires-clause-steps
-run_parts-requires-clause-steps g c κs within = subst (All (IsPartFor c.args.config.now)) (sym c.in_ok-rooms.ensures.parts) (parts_for c.args.config.now (parts_of c.args.parts.now) c.requires.possible c.requires.few)
-
-pub run_parts-requires-clause-alive : goal.run_parts-requires-clause-alive
-run_parts-requires-clause-alive g c κs within = record { held = _; spare = _; running = c.requires.running }
+pub run_parts-requires-clause-can : goal.run_parts-requires-clause-can
+run_parts-requires-clause-can g c κs within =
+    let config = c.args.config.now in
+    let parts = c.args.parts.now in
+    let room = c.args.room in
+    let main = c.in-Ok.ensures.ok in
+    let jobs = c.in-Ok-make.ensures.ok in
+    let begins = starts_from config c.args.buffers.now.state c.in-Ok.main _ _ _ main (c.boot.ensures.config ∙ c.requires.same) c.boot.ensures.stands.base in
+    let calls = ap (λ (s : Seat). s.left) main in
+    let queued = ap (λ (s : QueueSeat). s.left) jobs in
+    let children = ap (λ (s : Seat). s.children) main in
+    let job_children = ap (λ (s : QueueSeat). s.children) jobs in
+    let blocks = ap (λ (s : QueueSeat). s.start) jobs ∙ same_blocks c.config.result.now config c.config.ensures.value in
+    let count = length-map parts part_of in
+    record {
+      ready = record {
+        dem = record {
+          lock = c.in-Ok.ensures.lock;
+          has = record { same = ap (λ (s : Start). s.config) begins; valid = search rules; fits = subst (λ (s : Start). Fits config s.base) (sym begins) c.requires.fits };
+        };
+        queue = record { lock = c.in-Ok-make.ensures.lock; blocks = blocks; valid = search rules };
+      };
+      main = search rules;
+      alive = record { held = _; spare = _; running = c.requires.running };
+      steps = parts_for config (parts_of parts) c.requires.possible c.requires.few;
+      arms = c.requires.arms;
+      calls = record {
+        dem = omega (arith, calls, c.for_parts-calls.ensures.machine);
+        queue = omega (arith, queued, c.for_parts-calls.ensures.queue);
+        dem_numbers = omega (arith, children, c.requires.numbers);
+        queue_numbers = omega (arith, job_children, c.requires.numbers);
+      };
+      rooms_are = c.in_ok-rooms.ensures;
+      room = record {
+        few = omega (arith, count, c.requires.indices, ap length c.requires.room.own_empty.answers);
+        own = c.requires.room.own_room;
+        told = omega (arith, c.requires.room.none_told.1, c.requires.room.told_room);
+      };
+    }
 
 pub returns-clause-boot : goal.returns-clause-boot
 returns-clause-boot g c = ap (λ (view : LifeView). view.boot) (c.life_of-life.ensures (parts_of c.args.parts.now)) ∙ ap (λ s. boots.Started c.args.generation s) c.twin-start.ensures
@@ -33,13 +69,12 @@ over g c =
     let jobs_after = c.run_parts.new.seats.queue in
     let journal = c.close-journal.result.journal.items in
     let queue = c.close-queued.result.journal.items in
-    let begins : main.start ≡ start_from c.args.config.now c.args.buffers.now.state =
-    ap (λ (s : Seat). s.start) c.in-Ok.ensures.ok ∙ (λ i. record { config = (c.boot.ensures.config ∙ c.requires.same) i; base = c.boot.ensures.stands.base i }) in
+    let begins = starts_from c.args.config.now c.args.buffers.now.state main _ _ _ c.in-Ok.ensures.ok (c.boot.ensures.config ∙ c.requires.same) c.boot.ensures.stands.base in
     let counted = ap (λ (s : QueueSeat). s.start) c.in-Ok-make.ensures.ok ∙ same_blocks c.config.result.now c.args.config.now c.config.ensures.value in
-    over_of c.args.config.now c.args.buffers.now.state main after jobs jobs_after _ (parts_of c.args.parts.now) (told_in c.run_parts.new.answers.own) (map told_in c.run_parts.new.answers.told.items) journal queue c.args.store.now c.run_parts.new.store
-    (fresh_of main _ _ _ c.in-Ok.ensures.ok) (fresh_of jobs _ _ _ c.in-Ok-make.ensures.ok) begins counted c.in_ok-rooms.ensures.parts c.run_parts.ensures.lived
+    over_of c.args.config.now c.args.buffers.now.state main after jobs jobs_after (parts_of c.args.parts.now) (told_in c.run_parts.new.answers.own) (map told_in c.run_parts.new.answers.told.items) journal queue c.args.store.now c.run_parts.new.store
+    (fresh_of main _ _ _ c.in-Ok.ensures.ok) (fresh_of jobs _ _ _ c.in-Ok-make.ensures.ok) begins counted c.run_parts.ensures.lived.ran
     (closed after journal c.close-journal.ensures.seen c.close-journal.ensures.olds c.close-journal.ensures.calls)
-    (closed jobs_after queue c.close-queued.ensures.seen c.close-queued.ensures.olds c.close-queued.ensures.calls) c.run_parts.ensures.carries
+    (closed jobs_after queue c.close-queued.ensures.seen c.close-queued.ensures.olds c.close-queued.ensures.calls) c.run_parts.ensures.lived.carries
 
 pub returns-clause-leaves : goal.returns-clause-leaves
 returns-clause-leaves g c =

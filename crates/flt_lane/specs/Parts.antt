@@ -1,0 +1,59 @@
+-- What the parts of a life need, and what they leave.
+use Rattle.std.specs.Prelude.{◌≡◌, ◌+◌, ◌<◌, ◌≤◌, ◌^◌, List, [], All, length, map, reverse, sum_by, vec_len}
+use Rattle.std.specs.Vec.{vec_capacity}
+use Rattle.flt_flash.specs.declared.blocks.Blocks.{Ghosts}
+use Rattle.flt_config.specs.declared.config.Config.{Config}
+use Rattle.flt_step.specs.declared.step.Step.{Step}
+use Rattle.flt_step.specs.Part.{PartOf}
+use Rattle.flt_store.specs.declared.store.Store.{Store}
+use Rattle.flt_store.specs.Store.{IsAlive, driver_of}
+use Rattle.flt_fork.specs.Lived.{IsMain}
+use Rattle.flt_life_model.specs.Actions.{all_arms}
+use Rattle.flt_life_model.specs.Going.{GoesOn, WereGiven}
+use Rattle.flt_life_model.specs.Ordered.{deeds_in}
+use Rattle.flt_life_model.specs.Parts.{arms_in, calls_in, own_actions, own_steps, queued_in, widths}
+use Rattle.flt_life_model.specs.Room.{HasRoomForSteps, told_in}
+use Rattle.flt_lane.specs.declared.living.LifeAnswers.{LifeAnswers}
+use Rattle.flt_lane.specs.declared.locks.Locks.{Locks}
+use Rattle.flt_lane.specs.declared.locks.Seats.{Seats}
+use Rattle.flt_lane.specs.declared.room.BlockRoom.{BlockRoom}
+use Rattle.flt_lane.specs.Block.{HaveRunParts}
+use Rattle.flt_lane.specs.Living.{Carries}
+use Rattle.flt_lane.specs.Room.{AreRoomsOf, IsPartFor}
+use Rattle.flt_lane.specs.Work.{AreReady}
+
+-- The main seats have the calls of these parts left, and numbers for their lanes.
+pub record HaveCallsFor (seats : Seats) (parts : List (PartOf Step)) : Type 0 where
+  pub dem : sum_by calls_in parts ≤ seats.dem.left
+  pub queue : sum_by queued_in parts ≤ seats.queue.left
+  pub dem_numbers : seats.dem.children + widths parts < 2 ^ 32
+  pub queue_numbers : seats.queue.children + widths parts < 2 ^ 32
+
+-- There is room for the answers to these parts.
+pub record HasRoomForParts (answers : LifeAnswers) (parts : List (PartOf Step)) : Type 0 where
+  pub few : vec_len answers.own.answers + length parts < 2 ^ 32
+  pub own : HasRoomForSteps answers.own (own_steps parts)
+  pub told : vec_len answers.told + widths parts ≤ vec_capacity answers.told
+
+module _ {B : Type 0} {b : Ghosts B} where
+  -- These parts can be carried out: the main seats are ready for their steps, the store runs, the bench has places for their arms, and there is
+  -- room for their blocks and for their answers.
+  pub record CanRunParts {F : _} {g : _} (locks : Locks F g) (c : Config) (seats : Seats) (store : Store B b) (rooms : List BlockRoom) (answers : LifeAnswers)
+      (parts : List (PartOf Step)) : Type 0 where
+    pub ready : AreReady locks c seats.dem seats.queue
+    pub main : IsMain seats.dem × IsMain seats.queue
+    pub alive : IsAlive c store
+    pub steps : All (IsPartFor c) parts
+    pub arms : (driver_of store).device.bench.armed + sum_by arms_in parts ≤ 64
+    pub calls : HaveCallsFor seats parts
+    pub rooms_are : AreRoomsOf parts rooms
+    pub room : HasRoomForParts answers parts
+
+  -- These parts were carried out, and these are the answers: so their calls, their deeds, and their arms.
+  pub record HaveLivedParts (c : Config) (seats after : Seats) (store now : Store B b) (answers : LifeAnswers) (parts : List (PartOf Step)) : Type 0 where
+    pub ran : HaveRunParts seats.dem after.dem seats.queue after.queue parts (told_in answers.own) (map told_in answers.told.items)
+    pub told_len : vec_len answers.told ≡ widths parts
+    pub carries : Carries c seats.dem after.dem seats.queue after.queue [] (reverse (deeds_in parts (told_in answers.own) (map told_in answers.told.items))) store now
+    pub goes_on : GoesOn (driver_of store) (driver_of now)
+    pub given : WereGiven (all_arms (own_actions parts)) (driver_of store).device.bench.arms (driver_of now).device.bench.arms
+    pub armed : (driver_of now).device.bench.armed ≤ (driver_of store).device.bench.armed + sum_by arms_in parts
