@@ -6,8 +6,8 @@ use Rattle.std.proofs.lemmas.List.Elements.{All-head, All-tail}
 use Rattle.arrayvec.specs.ArrayVec.{ArrayVec}
 use Rattle.flt_model.specs.Reply.{Reply}
 use Rattle.flt_model.specs.declared.call.ReplyOf.TheVariants as kept
-use Rattle.flt_queue.specs.declared.job.QueueReply.{QueueReply}
-use Rattle.flt_queue.specs.declared.job.QueueReply.TheVariants as replies
+use Rattle.flt_queue.specs.Reply.{QueueReply}
+use Rattle.flt_queue.specs.declared.job.QueueReplyOf.TheVariants as replies
 use Rattle.flt_life_model.specs.declared.answer.KeptResponse.{KeptResponse}
 use Rattle.flt_life_model.specs.declared.answer.KeptQueueReply.{KeptQueueReply}
 use Rattle.flt_life_model.specs.declared.answer.KeptQueueReply.TheVariants as queued

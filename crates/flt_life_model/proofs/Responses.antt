@@ -14,7 +14,7 @@ use Rattle.flt_model.specs.declared.call.ReplyOf.TheVariants as kinds
 use Rattle.flt_queue.specs.Queue as queue
 use Rattle.flt_queue.specs.declared.job.QueueOp.{QueueOp}
 use Rattle.flt_queue.specs.declared.job.QueueOp.TheVariants as queue_ops
-use Rattle.flt_queue.specs.declared.job.QueueReply.TheVariants as replies
+use Rattle.flt_queue.specs.declared.job.QueueReplyOf.TheVariants as replies
 use Rattle.flt_life_model.specs.Actions.{IsQueueCall}
 use Rattle.flt_life_model.specs.Answers.{queue_reply_size, reply_size}
 

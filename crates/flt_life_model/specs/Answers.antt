@@ -5,8 +5,8 @@ use Rattle.arrayvec.specs.ArrayVec.{ArrayVec}
 use Rattle.flt_dcm.specs.ReplyKind.{ReplyKind, reply_with}
 use Rattle.flt_model.specs.Reply.{Reply, map_reply, of_response}
 use Rattle.flt_model.specs.declared.call.ReplyOf.{ReplyOf}
-use Rattle.flt_queue.specs.declared.job.QueueReply.{QueueReply}
-use Rattle.flt_queue.specs.declared.job.QueueReply.TheVariants as replies
+use Rattle.flt_queue.specs.Reply.{QueueReply}
+use Rattle.flt_queue.specs.declared.job.QueueReplyOf.TheVariants as replies
 use Rattle.flt_life_model.specs.declared.answer.KeptResponse.{KeptResponse}
 use Rattle.flt_life_model.specs.declared.answer.KeptQueueReply.{KeptQueueReply}
 use Rattle.flt_life_model.specs.declared.answer.KeptQueueReply.TheVariants as kept
