@@ -1,3 +1,4 @@
+use arrayvec::ArrayVec;
 use flt_dcm::ReplyKind;
 use flt_life_model::*;
 use flt_step::{Part, Step};
@@ -5,7 +6,7 @@ use std::test::Fail;
 
 #[test]
 fn answers_are_kept(rt: HostRuntime) -> Result<(), Fail> {
-    let mut replies = LaneReplies::with_room(rt.alloc(), 3, 2)?;
+    let mut replies = LaneReplies::with_room(rt.alloc(), 4, 5)?;
     let response = StepAnswer::Dem(Answer {
         place: 0,
         reply: ReplyKind::Response(()),
@@ -17,8 +18,13 @@ fn answers_are_kept(rt: HostRuntime) -> Result<(), Fail> {
     });
     replies.keep(silent, &[]);
     replies.keep(StepAnswer::Dark, &[0x7F]);
-    assert!(rt; replies.answers.len() == 3);
-    assert!(rt; replies.responses.as_slice() == [0x51, 0x01].as_slice());
+    let mut bytes = ArrayVec::new();
+    bytes.push(0xB9);
+    replies.keep(StepAnswer::Bytes(bytes), &[0x7F]);
+    assert!(rt; replies.answers.len() == 4);
+    assert!(rt; replies.responses.as_slice() == [0x51, 0x01, 0xB9].as_slice());
+    let block = KeptResponse { from: 2, length: 1 };
+    assert!(rt; block.among(&[0x51, 0x01, 0xB9]) == [0xB9].as_slice());
     Ok(())
 }
 
@@ -52,5 +58,5 @@ fn steps_are_counted(rt: HostRuntime) {
     assert!(rt; counts(Step::Cycle { cycle: 3 }, 1, 0, 0));
     assert!(rt; counts(Step::Drain, 0, 64, 0));
     assert!(rt; counts(Step::Ask { block: 0 }, 0, 1, 0));
-    assert!(rt; counts(Step::Get { block: 0 }, 0, 0, 0));
+    assert!(rt; counts(Step::Get { block: 0 }, 0, 0, 32));
 }

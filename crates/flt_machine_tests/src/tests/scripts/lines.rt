@@ -5,7 +5,9 @@ ghost use Rattle.flt_restore.specs.declared.fault.StartFault.TheVariants as faul
 
 use arrayvec::ArrayVec;
 use flt_config::{CfgFault, Persist};
-use flt_life_model::{Answer, Boot, KeptReply, KeptResponse, StepAnswer};
+use flt_life_model::{
+    Answer, Boot, KeptAnswer, KeptQueueReply, KeptReply, KeptResponse, StepAnswer,
+};
 use flt_model::{Cause, REQUEST, Report, Shown};
 use flt_report::{put_boot, put_end, put_lane, put_par, put_step};
 use flt_restore::StartFault;
@@ -28,12 +30,7 @@ fn stands(out: &[u8], line: &str) -> bool {
 }
 
 /// Whether a step that is answered so has this line.
-fn is_step(
-    alloc: Global,
-    step: &Step,
-    answer: &StepAnswer<KeptReply>,
-    line: &str,
-) -> Result<bool, AllocError>
+fn is_step(alloc: Global, step: &Step, answer: &KeptAnswer, line: &str) -> Result<bool, AllocError>
     requires { IsAnswerWithin 5 answer.now }
 {
     let mut out = Vec::new(alloc);
@@ -43,7 +40,7 @@ fn is_step(
 }
 
 /// The answer of a call, whose response is within the bytes.
-fn told(reply: KeptReply) -> StepAnswer<KeptReply>
+fn told(reply: KeptReply) -> KeptAnswer
     ensures { IsAnswerWithin 5 result }
 {
     match reply {
@@ -125,6 +122,15 @@ fn other_answers(rt: HostRuntime) -> Result<(), Fail> {
     assert!(rt; is_failed_save(alloc, SaveFault::Spent, "save -> spent\n")?);
     assert!(rt; is_failed_save(alloc, SaveFault::SequenceSpent, "save -> sequence\n")?);
     assert!(rt; is_step(alloc, &Step::Drain, &StepAnswer::Armed, "drain -> armed\n")?);
+    let get = Step::Get { block: 9 };
+    let bytes = StepAnswer::Bytes(KeptResponse { from: 1, length: 2 });
+    assert!(rt; is_step(alloc, &get, &bytes, "get 9 -> 0A B9\n")?);
+    let ask = Step::Ask { block: 9 };
+    let full = StepAnswer::Queue(Answer {
+        place: 7,
+        reply: KeptQueueReply::QueueFull,
+    });
+    assert!(rt; is_step(alloc, &ask, &full, "ask 9 -> full\n")?);
     Ok(())
 }
 
