@@ -40,11 +40,12 @@ use Rattle.flt_lane.specs.BlockRun.{GainsPart, HasRunLanes}
 use Rattle.flt_fork.specs.Lived.{IsMain, HasLived}
 use Rattle.flt_lane.specs.Living.{Carries}
 use Rattle.flt_lane.specs.Parts.{CanRunParts, HasRoomForParts, HaveLivedParts}
-use Rattle.flt_lane.specs.Room.{AreRoomsOf, IsPartFor}
+use Rattle.flt_lane.specs.Room.{AreRoomsOf, IsPartFor, lanes_of}
 use Rattle.flt_lane.specs.Stepped.{TakesStep}
 use Rattle.flt_lane.specs.Runs.{QueueSeat, calls_by, queued_by}
 use Rattle.flt_lane.proofs.Carrying.{carries_beside, carries_further}
 use Rattle.flt_lane.proofs.LaneDeeds.{all_lanes_count, all_own_count, deeds_more, deeds_of_block, lanes_told_count, newest_of_one}
+use Rattle.flt_lane.proofs.Rooms.{next_room}
 use Rattle.flt_lane.proofs.Starts.{config_stays}
 use Rattle.flt_fork.proofs.Parts.{chain_part, lived_none as chain_none, lived_more as chain_more}
 
@@ -140,9 +141,15 @@ room_behind answers kept part rest room own_len own_room told_len told_capacity 
 
 module _ {F : _} {g : _} {B : Type 0} {b : Ghosts B} (locks : Locks F g) (c : Config) (seats : Seats) (store : Store B b) (rooms : List BlockRoom) (answers : LifeAnswers) (part : PartOf Step) (rest : List (PartOf Step))
     (can : CanRunParts locks c seats store rooms answers (part ∷ rest)) where
-  -- The steps of the first of them.
+  -- What the first of them needs.
   pub part_for : IsPartFor c part
   part_for = All-head (IsPartFor c) part rest can.steps
+
+  pub calls_for : calls_in part ≤ seats.dem.left
+  calls_for = let sum = sum_by-cons calls_in part rest in omega (arith, sum, can.calls.dem)
+
+  pub queued_for : queued_in part ≤ seats.queue.left
+  queued_for = let sum = sum_by-cons queued_in part rest in omega (arith, sum, can.calls.queue)
 
   -- What the later ones need, behind it.
   pub can_behind : (after : Seats) (now : Store B b) (left : List BlockRoom) (kept : LifeAnswers)
@@ -174,6 +181,13 @@ module _ {F : _} {g : _} {B : Type 0} {b : Ghosts B} (locks : Locks F g) (c : Co
         rooms_are = rooms_are;
         room = room_behind answers kept part rest can.room own_len own_room told_len told_capacity;
       }
+
+-- The next room is that of the block.
+pub can_next : {F : _} {g : _} {B : Type 0} {b : Ghosts B} (locks : Locks F g) (c : Config) (seats : Seats) (store : Store B b) (answers : LifeAnswers) (part : PartOf Step) (block : List (List Step)) (rest : List (PartOf Step))
+    (room : BlockRoom) (rooms left : List BlockRoom) → part ≡ inr block → rooms ≡ room ∷ left → CanRunParts locks c seats store rooms answers (part ∷ rest) → CanRunParts locks c seats store (room ∷ left) answers (inr (lanes_of room) ∷ rest)
+can_next locks c seats store answers part block rest room rooms left is next can =
+    subst (λ (p : PartOf Step). CanRunParts locks c seats store (room ∷ left) answers (p ∷ rest)) (next_room part block rest room rooms left is next can.rooms_are)
+    (subst (λ (l : List BlockRoom). CanRunParts locks c seats store l answers (part ∷ rest)) next can)
 
 -- ---- the parts that were carried out
 

@@ -1,7 +1,7 @@
 -- The lanes of a life, handed out to its blocks.
-use Rattle.std.proofs.Common.{◌≡◌, inl, inr, List, [], ◌∷◌, ◌++◌, All, length, map, arith, append_assoc, refl, sym, ap, subst, ◌∙◌}
+use Rattle.std.proofs.Common.{◌≡◌, inl, inr, List, [], ◌∷◌, ◌++◌, All, length, map, arith, append_assoc, refl, sym, ap, ◌∙◌}
 use Rattle.std.proofs.lemmas.List.{length-map, map-append}
-use Rattle.std.proofs.lemmas.List.Elements.{All-append, All-cons, All-head, All-nil, All-tail}
+use Rattle.std.proofs.lemmas.List.Elements.{All-append, All-cons, All-nil, All-tail}
 use Rattle.flt_step.specs.declared.step.Step.{Step}
 use Rattle.flt_step.specs.Part.{PartOf}
 use Rattle.flt_life_model.specs.declared.room.LaneRoom.{LaneRoom}
@@ -39,23 +39,18 @@ taken_rooms block later all rooms left are count is =
 
 -- ---- the rooms of blocks
 
--- The next room is that of the block, and the others are those of the later blocks.
-pub record IsNextRoom (part : PartOf Step) (room : BlockRoom) (later : List (PartOf Step)) (left : List BlockRoom) : Type 0 where
-  pub part_is : part ≡ inr (lanes_of room)
-  pub ready : IsBlockRoom room
-  pub rooms_are : AreRoomsOf later left
-
-pub next_room : (part : PartOf Step) (block : List (List Step)) (later : List (PartOf Step)) (room : BlockRoom) (rooms left : List BlockRoom) → part ≡ inr block → rooms ≡ room ∷ left → AreRoomsOf (part ∷ later) rooms
-    → IsNextRoom part room later left
+-- The next room is that of the block.
+pub next_room : (part : PartOf Step) (block : List (List Step)) (later : List (PartOf Step)) (room : BlockRoom) (rooms left : List BlockRoom) → part ≡ inr block → rooms ≡ room ∷ left → AreRoomsOf (part ∷ later) rooms → part ≡ inr (lanes_of room)
 next_room part block later room rooms left is next are =
     let all : lanes_of room ∷ map lanes_of left ≡ block ∷ blocks_in later = ap (map lanes_of) (sym next) ∙ are.lanes_are ∙ ap (λ p. blocks_in (p ∷ later)) is in
     let same : lanes_of room ≡ block = cc in
-    let ready = subst (All IsBlockRoom) next are.ready in
-    record {
-      part_is = is ∙ ap (λ l. inr l) (sym same);
-      ready = All-head IsBlockRoom room left ready;
-      rooms_are = record { lanes_are = cc; ready = All-tail IsBlockRoom room left ready };
-    }
+    is ∙ ap (λ l. inr l) (sym same)
+
+-- The others are those of the later blocks.
+pub rooms_behind : (block : List (List Step)) (later : List (PartOf Step)) (room : BlockRoom) (left : List BlockRoom) → AreRoomsOf (inr block ∷ later) (room ∷ left) → AreRoomsOf later left
+rooms_behind block later room left are =
+    let all : lanes_of room ∷ map lanes_of left ≡ block ∷ blocks_in later = are.lanes_are in
+    record { lanes_are = cc; ready = All-tail IsBlockRoom room left are.ready }
 
 -- Some parts have their rooms, and these are left, with the lanes of theirs.
 pub record AreHandedOut (parts left : List (PartOf Step)) (rooms : List BlockRoom) (lanes : List LaneRoom) : Type 0 where

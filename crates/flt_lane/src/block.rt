@@ -1,22 +1,25 @@
 //! A block: its lanes get their seats, run, and are joined.
-ghost use Rattle.std.specs.Prelude.{◌≡◌, ◌<◌, ◌≤◌, ◌+◌, ◌^◌, ◌∷◌, All, List, length, map, vec_len};
+ghost use Rattle.std.specs.Prelude.{◌≡◌, ◌≤◌, ◌+◌, ◌∷◌, All, List, length, map, vec_len};
 ghost use Rattle.std.specs.Vec.{vec_capacity};
+ghost use Rattle.std.proofs.Common.{inr};
+ghost use Rattle.flt_step.specs.declared.step.Step.{Step};
+ghost use Rattle.flt_step.specs.Part.{PartOf};
 ghost use Rattle.flt_step.specs.Step.{store_lanes};
 ghost use Rattle.flt_store.specs.Store.{IsAlive, driver_of};
-ghost use Rattle.flt_turn.specs.Seats as turn;
-ghost use Rattle.flt_shared.specs.Lock.{IsSeatOf};
 ghost use Rattle.flt_life_model.specs.Room.{steps_of, told_in};
 ghost use Rattle.flt_life_model.specs.declared.room.LaneRoom.{LaneRoom as RoomView};
 ghost use Rattle.flt_lane.specs.declared.lane.LaneWork.{LaneWork};
-ghost use Rattle.flt_lane.specs.BlockRun.{HasRunLanes};
-ghost use Rattle.flt_fork.specs.Lived.{IsMain};
-ghost use Rattle.flt_lane.specs.Room.{IsBlockRoom, IsLaneFor, all_calls, all_queued};
+ghost use Rattle.flt_lane.specs.declared.room.BlockRoom.{BlockRoom as BlockView};
+ghost use Rattle.flt_lane.specs.BlockRun.{GainsPart};
+ghost use Rattle.flt_lane.specs.Parts.{CanRunParts};
+ghost use Rattle.flt_lane.specs.Room.{IsBlockRoom, lanes_of};
 ghost use Rattle.flt_lane.specs.Seating.{AreSeated, CanJoin, CanSeat, HaveJoined, IsJoined, IsSeated};
 ghost use Rattle.flt_lane.specs.Stored.{AreRun};
-ghost use Rattle.flt_lane.specs.Work.{AreReady, AreSeatsOf, HasConfig, IsPrepared};
+ghost use Rattle.flt_lane.specs.Work.{AreSeatsOf, HasConfig, IsPrepared};
 
 use crate::gate::SharedGate;
 use crate::lane::LaneWork;
+use crate::living::LifeAnswers;
 use crate::locks::{Common, Locks, Seats};
 use crate::room::BlockRoom;
 use flt_config::ValidConfig;
@@ -131,33 +134,22 @@ fn run_works<R: Threads + Wait + Sync, G: SharedGate, B: Blocks + Drop>(
 }
 
 /// Runs the lanes of a block, and puts their answers behind those that are there. No memory is taken: there is room for the seats
-/// in `room`, and in `told` for the answers.
+/// in `room`, and in `answers` for the answers.
 pub(crate) fn run_lanes<'a, R: Threads + Wait + Sync, G: SharedGate, B: Blocks + Drop>(
     common: &Common<'_, R, G>,
     store: &mut Store<B>,
     seats: &mut Seats,
     room: BlockRoom<'a>,
-    told: &mut Vec<LaneReplies>,
+    answers: &mut LifeAnswers,
 )
-    requires ready { AreReady common.now.locks.now common.now.config.now seats.old.dem seats.old.queue }
-    requires main { IsMain seats.old.dem × IsMain seats.old.queue }
-    requires alive { IsAlive common.now.config.now store.old }
-    requires arms { (driver_of store.old).device.bench.armed ≤ 64 }
-    requires room { IsBlockRoom room }
-    requires steps { All (IsLaneFor seats.old.dem.start.config) (steps_of room.lanes.items) }
-    requires one_stores { store_lanes (steps_of room.lanes.items) ≤ 1 }
-    requires calls { all_calls (steps_of room.lanes.items) ≤ seats.old.dem.left }
-    requires queued { all_queued (steps_of room.lanes.items) ≤ seats.old.queue.left }
-    requires children { (seats.old.dem.children + length room.lanes.items < 2 ^ 32) × (seats.old.queue.children + length room.lanes.items < 2 ^ 32) }
-    requires told { vec_len told.old + length room.lanes.items ≤ vec_capacity told.old }
-    ensures part { HasRunLanes common.now.config.now seats.old.dem seats.new.dem seats.old.queue seats.new.queue (steps_of room.entry.lanes.items)
-        (map told_in told.old.items) (map told_in told.new.items) store.old store.new }
-    ensures len { vec_len told.new ≡ vec_len told.old + length room.entry.lanes.items }
-    ensures capacity { vec_capacity told.new ≡ vec_capacity told.old }
-    ensures lock { IsSeatOf common.now.locks.now.dem seats.new.dem }
-    ensures queue { turn.IsSeatOf common.now.locks.now.queue.turn seats.new.queue }
-    ensures left { seats.old.dem.left ≤ seats.new.dem.left + all_calls (steps_of room.entry.lanes.items) }
-    ensures queue_left { seats.old.queue.left ≤ seats.new.queue.left + all_queued (steps_of room.entry.lanes.items) }
+    requires can { (later : List BlockView) × (rest : List (PartOf Step))
+        × CanRunParts common.now.locks.now common.now.config.now seats.old store.old (room ∷ later) answers.old (inr (lanes_of room) ∷ rest) }
+    ensures gains { GainsPart common.now.config.now seats.old.dem seats.new.dem seats.old.queue seats.new.queue (inr (lanes_of room.entry))
+        (told_in answers.old.own) (told_in answers.new.own) (map told_in answers.old.told.items) (map told_in answers.new.told.items) store.old store.new }
+    ensures told_len { vec_len answers.new.told ≡ vec_len answers.old.told + length (lanes_of room.entry) }
+    ensures can { (later : List BlockView) (rest : List (PartOf Step))
+        → CanRunParts common.now.locks.now common.now.config.now seats.old store.old (room.entry ∷ later) answers.old (inr (lanes_of room.entry) ∷ rest)
+        → CanRunParts common.now.locks.now common.now.config.now seats.new store.new later answers.new rest }
 {
     let Common {
         rt,
@@ -167,5 +159,5 @@ pub(crate) fn run_lanes<'a, R: Threads + Wait + Sync, G: SharedGate, B: Blocks +
     } = *common;
     let mut works = seat_lanes(locks, seats, room);
     run_works(rt, locks, store, config, &mut works, gate);
-    join_lanes(locks, seats, works, told);
+    join_lanes(locks, seats, works, &mut answers.told);
 }

@@ -73,7 +73,7 @@ fn run_part<'a, R: Threads + Wait + Sync, G: SharedGate, B: Blocks + Drop>(
             let Some(room) = rooms.next() else {
                 unreachable!()
             };
-            run_lanes(common, store, seats, room, &mut answers.told);
+            run_lanes(common, store, seats, room, answers);
         }
     }
 }
