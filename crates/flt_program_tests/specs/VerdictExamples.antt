@@ -1,12 +1,11 @@
 -- Worked verdicts of an inspection, and what words and watches ask for.
-use Rattle.std.specs.Prelude.{◌≡◌, ℕ, List, [], ◌∷◌, ◌++◌, map, codes, Bool, true, false, Option, Some, None, Ok, Err}
+use Rattle.std.specs.Prelude.{◌≡◌, ℕ, List, [], ◌∷◌, ◌++◌, map, codes, true, false, Some, None, Ok, Err}
 use Rattle.std.specs.Fmt.{decimal}
 use Rattle.flt_flash.specs.declared.arm.Arm.{Arm}
 use Rattle.flt_model.specs.declared.call.Report.TheVariants.{Failed}
 use Rattle.flt_store_model.specs.Holding.{Generation}
 use Rattle.flt_store_model.specs.Image.{image_held}
 use Rattle.flt_store_model.specs.Layout.{numbers}
-use Rattle.flt_restore.specs.declared.fault.StartFault.{StartFault}
 use Rattle.flt_script.specs.declared.fault.LineCause.TheVariants.{Form}
 use Rattle.flt_step.specs.declared.step.Step.TheVariants as steps
 use Rattle.flt_filter.specs.Verdict.{Due, large_due, unread_due}

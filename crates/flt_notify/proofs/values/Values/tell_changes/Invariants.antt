@@ -10,4 +10,4 @@ invariant-loop-event g l =
     (fold (next_values 0) l.self (changes_from l.place l.event (drop l.event l.before) (statuses (drop l.event l.states)))
     ≡ fold (next_values 0) l.fn.self (changes_from l.place 0 l.before (statuses l.states)))
     × ((later : List ℕ) → AreTold l.subscribers l.self (changes_from l.place l.event (drop l.event l.before) (statuses (drop l.event l.states))) later
-        → AreTold l.subscribers l.fn.self (changes_from l.place 0 l.before (statuses l.states)) later)
+    → AreTold l.subscribers l.fn.self (changes_from l.place 0 l.before (statuses l.states)) later)
