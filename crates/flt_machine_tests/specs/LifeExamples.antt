@@ -11,7 +11,7 @@ use Rattle.flt_model.specs.Durable.{saved_after}
 use Rattle.flt_model.specs.declared.call.Op.TheVariants as ops
 use Rattle.flt_queue.specs.declared.job.Job.{Job}
 use Rattle.flt_queue.specs.declared.job.QueueOp.TheVariants as queue
-use Rattle.flt_queue.specs.declared.job.QueueReply.TheVariants as replies
+use Rattle.flt_queue.specs.declared.job.QueueReplyOf.TheVariants as replies
 use Rattle.flt_store.specs.declared.fault.SaveFault.TheVariants.{Flash}
 use Rattle.flt_step.specs.declared.step.Step.TheVariants as steps
 use Rattle.flt_life_model.specs.declared.action.Action.TheVariants as actions
