@@ -41,7 +41,7 @@ fn write_job<R: Wait, B: Blocks + Drop>(
     ensures lock { turn.IsSeatOf queue.now.turn seat.new }
 {
     let written = store.put_block(job.block, &job.bytes).is_ok();
-    let Ok(_noted) = queue.done(rt, seat, job.block, written) else {
+    let Ok(_noted) = queue.note_done(rt, seat, job.block, written) else {
         unreachable!()
     };
     written
@@ -63,7 +63,7 @@ fn take_job<R: Wait, B: Blocks + Drop>(
     ensures looks { LooksForJob config.now seat.old seat.new result store.old store.new }
     ensures lock { turn.IsSeatOf queue.now.turn seat.new }
 {
-    let Ok(taken) = queue.take(rt, seat, job) else {
+    let Ok(taken) = queue.take_into(rt, seat, job) else {
         unreachable!()
     };
     match taken.reply {

@@ -6,7 +6,7 @@ use Rattle.std.proofs.lemmas.List.Elements.{All-nil, All-cons, All-head, All-tai
 use Rattle.flt_queue.specs.declared.job.Job.{Job}
 use Rattle.flt_queue.specs.declared.job.QueueOp.{QueueOp}
 use Rattle.flt_queue.specs.declared.job.QueueOp.TheVariants as ops
-use Rattle.flt_queue.specs.Reply.{QueueKind, reply_with}
+use Rattle.flt_queue.specs.Reply.{QueueKind, QueueReply, reply_with}
 use Rattle.flt_queue.specs.Queue.{History, Posted, posted, IsJob, IsAdmitted, IsFor, waiting, pending, some_urgent, earliest, without_earliest, handed_out}
 use Rattle.flt_queue.specs.Call.{Seat, IsCall, whole}
 use Rattle.flt_turn.specs.Call.{past}
@@ -57,9 +57,16 @@ reverse_all P xs all = λ k d lt.
     rw (get_or-reverse xs k d within) (all (length xs - 1 - k) d (omega (arith, within)))
 
 -- What a call of a lock that takes a job is answered.
-pub take_for : (before after : Seat) (job : Job) (told : Result (Answer QueueKind) (HistoryFull QueueOp)) → IfOk told (λ told. IsCall before after ops.Take (whole told job)) → IfOk told (λ told. IsFor before.start (reply_with told.reply job))
-take_for before after job (Ok told) call =
+taken_for : (before after : Seat) (told : Answer QueueReply) → IsCall before after ops.Take told → IsFor before.start told.reply
+taken_for before after told call =
     let ops_all : All (IsAdmitted before.start) (ops_before told.place after.seen) = All-map (IsAdmitted before.start) (λ entry. entry.op) _ (All-take (λ entry. IsAdmitted before.start entry.op) told.place after.seen call.admitted) in
     let calls_all : All (IsAdmitted before.start) (past told.place after.seen) = reverse_all (IsAdmitted before.start) (ops_before told.place after.seen) ops_all in
     rw call.reply (earliest_for before.start (some_urgent (waiting (past told.place after.seen))) (waiting (past told.place after.seen)) (waiting_for before.start (past told.place after.seen) calls_all))
-take_for before after job (Err full) call = tt
+
+pub take_for : (before after : Seat) (told : Result (Answer QueueReply) (HistoryFull QueueOp)) → IfOk told (IsCall before after ops.Take) → IfOk told (λ told. IsFor before.start told.reply)
+take_for before after (Ok told) call = taken_for before after told call
+take_for before after (Err full) call = tt
+
+pub take_into_for : (before after : Seat) (job : Job) (told : Result (Answer QueueKind) (HistoryFull QueueOp)) → IfOk told (λ told. IsCall before after ops.Take (whole told job)) → IfOk told (λ told. IsFor before.start (reply_with told.reply job))
+take_into_for before after job (Ok told) call = taken_for before after (whole told job) call
+take_into_for before after job (Err full) call = tt

@@ -98,9 +98,18 @@ impl QueueLock {
         self.call(rt, seat, QueueOp::Post { urgent, job })
     }
 
-    /// Takes the next job, and writes it in place of what `job` holds: it is one of 1 to 32 bytes for a block of the queue.
+    /// Takes the next job, which is one of 1 to 32 bytes for a block of the queue.
+    pub fn take<R: Wait>(&self, rt: &R, seat: &mut QueueSeat) -> QueueAnswer
+        requires lock { IsSeatOf self.now.turn seat.old }
+        ensures call { Calls seat.old seat.new ops.Take result }
+        ensures job { IfOk result (λ told. IsFor seat.old.start told.reply) }
+    {
+        self.call(rt, seat, QueueOp::Take)
+    }
+
+    /// Takes the next job as `take` does, and writes it in place of what `job` holds.
     #[inline(always)]
-    pub fn take<R: Wait>(&self, rt: &R, seat: &mut QueueSeat, job: &mut Job) -> QueueTold
+    pub fn take_into<R: Wait>(&self, rt: &R, seat: &mut QueueSeat, job: &mut Job) -> QueueTold
         requires lock { IsSeatOf self.now.turn seat.old }
         ensures call { CallsInto seat.old seat.new ops.Take job.new result }
         ensures job { IfOk result (λ told. IsFor seat.old.start (reply_with told.reply job.new)) }
@@ -110,8 +119,29 @@ impl QueueLock {
     }
 
     /// Notes what became of the job of a block that was taken.
+    pub fn done<R: Wait>(
+        &self,
+        rt: &R,
+        seat: &mut QueueSeat,
+        block: u8,
+        written: bool,
+    ) -> QueueAnswer
+        requires lock { IsSeatOf self.now.turn seat.old }
+        requires block { block < seat.old.start }
+        ensures { Calls seat.old seat.new (ops.Done block written) result }
+    {
+        self.call(rt, seat, QueueOp::Done { block, written })
+    }
+
+    /// Notes it as `done` does. The answer has only the kind of the reply.
     #[inline(always)]
-    pub fn done<R: Wait>(&self, rt: &R, seat: &mut QueueSeat, block: u8, written: bool) -> QueueTold
+    pub fn note_done<R: Wait>(
+        &self,
+        rt: &R,
+        seat: &mut QueueSeat,
+        block: u8,
+        written: bool,
+    ) -> QueueTold
         requires lock { IsSeatOf self.now.turn seat.old }
         requires block { block < seat.old.start }
         ensures { CallsAlone seat.old seat.new (ops.Done block written) result }
