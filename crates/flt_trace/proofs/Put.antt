@@ -2,18 +2,17 @@
 use Rattle.std.proofs.Common.{◌≡◌, ℕ, suc, ◌+◌, ◌<◌, List, length, drop, get_or, map, arith, ap, ◌∙◌}
 use Rattle.std.proofs.Math.Seq.{drop-cons}
 use Rattle.std.proofs.lemmas.List.{get_or-map, length-map}
-use Rattle.flt_life_model.specs.Answers.{KeptReply, told_by, with_reply, reply_in}
+use Rattle.flt_life_model.specs.Answers.{KeptAnswer, told_by, told_of}
 use Rattle.flt_life_model.specs.Room.{told_in}
-use Rattle.flt_life_model.specs.declared.answer.StepAnswer.{StepAnswer}
 use Rattle.flt_life_model.specs.declared.replies.LaneReplies.{LaneReplies}
 use Rattle.flt_trace.specs.Answered.{with_lane, with_lanes, with_told}
 
 -- One answer more of a lane.
-pub next_told : (texts : List (List ℕ)) (bytes : List ℕ) (answers : List (StepAnswer KeptReply)) (place : ℕ) (answer : StepAnswer KeptReply) → place < length answers
-    → with_lane texts (drop place (told_by bytes answers)) ≡ with_lane (with_told texts (with_reply (reply_in bytes) (get_or answers place answer))) (drop (place + 1) (told_by bytes answers))
+pub next_told : (texts : List (List ℕ)) (bytes : List ℕ) (answers : List KeptAnswer) (place : ℕ) (answer : KeptAnswer) → place < length answers
+    → with_lane texts (drop place (told_by bytes answers)) ≡ with_lane (with_told texts (told_of bytes (get_or answers place answer))) (drop (place + 1) (told_by bytes answers))
 next_told texts bytes answers place answer within =
     let told = told_by bytes answers in
-    let one = with_reply (reply_in bytes) in
+    let one = told_of bytes in
     let inside : place < length told = omega (arith, within, length-map answers one) in
     let here : get_or told place (one answer) ≡ one (get_or answers place answer) = get_or-map one answers place answer (one answer) within in
     let next : suc place ≡ place + 1 = omega arith in

@@ -1,13 +1,13 @@
 //! The texts of the answers of a life.
 ghost use Rattle.std.specs.Prelude.{◌≡◌, IfOk, OnOk, length, map, replicate, slice_set};
 ghost use Rattle.std.specs.String.{string_bytes};
-ghost use Rattle.flt_life_model.specs.Answers.{IsAnswerWithin, IsReplyWithin, reply_in, with_reply};
+ghost use Rattle.flt_life_model.specs.Answers.{IsAnswerWithin, IsReplyWithin, reply_in, told_of};
 ghost use Rattle.flt_life_model.specs.Room.{told_in};
 ghost use Rattle.flt_report.specs.Answer.{reply_text};
 ghost use Rattle.flt_trace.specs.Answered.{answer_texts, taken_text, with_lane, with_lanes, with_told};
 
 use crate::text::text_of;
-use flt_life_model::{Entry, KeptReply, LaneReplies, StepAnswer};
+use flt_life_model::{Entry, KeptAnswer, KeptReply, LaneReplies, StepAnswer};
 use flt_model::Op;
 use flt_report::put_kept_reply;
 use std::alloc::{AllocError, Global};
@@ -34,12 +34,12 @@ fn put_at(texts: &mut Vec<String>, place: usize, text: String)
 /// Puts the text of an answer at its place, where it is a reply of the status machine.
 fn put_told(
     alloc: Global,
-    answer: &StepAnswer<KeptReply>,
+    answer: &KeptAnswer,
     responses: &[u8],
     texts: &mut Vec<String>,
 ) -> Result<(), AllocError>
     requires { IsAnswerWithin (length responses.now) answer.now }
-    ensures { OnOk result (map string_bytes texts.new.items ≡ with_told (map string_bytes texts.old.items) (with_reply (reply_in responses.now) answer.now)) }
+    ensures { OnOk result (map string_bytes texts.new.items ≡ with_told (map string_bytes texts.old.items) (told_of responses.now answer.now)) }
 {
     if let StepAnswer::Dem(told) = answer {
         let text = reply_text(alloc, &told.reply, responses)?;
