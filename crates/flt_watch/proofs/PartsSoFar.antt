@@ -1,8 +1,8 @@
 -- A life after some of its parts.
-use Rattle.std.proofs.Common.{◌≡◌, inl, inr, ◌≤◌, ◌+◌, List, [], ◌∷◌, All, map, arith, sym, subst}
+use Rattle.std.proofs.Common.{◌≡◌, inl, inr, ◌≤◌, ◌+◌, List, [], ◌∷◌, ◌++◌, All, length, map, arith, refl, sym, ap, subst, ◌∙◌}
 use Rattle.std.specs.Prelude.{vec_len}
 use Rattle.std.specs.Vec.{vec_capacity}
-use Rattle.std.proofs.lemmas.List.{append-nil}
+use Rattle.std.proofs.lemmas.List.{append-nil, length-map}
 use Rattle.std.proofs.lemmas.List.Elements.{All-head, All-tail}
 use Rattle.std.proofs.lemmas.List.Sums.{sum_by-cons}
 use Rattle.flt_step.specs.declared.step.Step.{Step}
@@ -17,6 +17,7 @@ use Rattle.flt_fork.specs.Lived.{IsMain}
 use Rattle.flt_lane.specs.declared.living.LifeAnswers.{LifeAnswers}
 use Rattle.flt_lane.specs.Runs.{calls_by}
 use Rattle.flt_lane.proofs.Lives.{part_block, part_one, room_behind}
+use Rattle.flt_lane.proofs.Rooms.{taken_rooms}
 use Rattle.flt_watch.specs.declared.lock.WatchLock.{WatchLock}
 use Rattle.flt_watch.specs.Block.{CanRunParts, Gains, HasStepped, IsPartFor, RunsLanes}
 use Rattle.flt_watch.specs.Lane.{IsSeatOf}
@@ -68,3 +69,22 @@ module _ {F : _} {g : _} {H : _} {h : _} (lock : WatchLock F g H h) (main : Seat
         ready = ready;
         room = room_behind answers kept part rest can.room own_len own_room told_len told_capacity;
       }
+
+-- ---- the next block
+
+-- The rooms that were taken are those of the block.
+pub next_rooms : (part : PartOf Step) (block : List (List Step)) (rest : List (PartOf Step)) (all rooms left : List LaneRoom) → part ≡ inr block → rooms ++ left ≡ all → length rooms ≡ length block → steps_of all ≡ lanes_in (part ∷ rest)
+    → part ≡ inr (steps_of rooms)
+next_rooms part block rest all rooms left is are long given =
+    let taken = taken_rooms block (lanes_in rest) all rooms left are long (given ∙ ap (λ (p : PartOf Step). lanes_in (p ∷ rest)) is) in
+    is ∙ ap (λ l. inr l) (sym taken.taken)
+
+pub can_next : {F : _} {g : _} {H : _} {h : _} (lock : WatchLock F g H h) (main : Seat) (answers : LifeAnswers) (part : PartOf Step) (block : List (List Step)) (rest : List (PartOf Step)) (all rooms left : List LaneRoom) → part ≡ inr block
+    → rooms ++ left ≡ all → length rooms ≡ length block → CanRunParts lock main all answers (part ∷ rest) → CanRunParts lock main (rooms ++ left) answers (inr (steps_of rooms) ∷ rest)
+can_next lock main answers part block rest all rooms left is are long can =
+    subst (λ (p : PartOf Step). CanRunParts lock main (rooms ++ left) answers (p ∷ rest)) (next_rooms part block rest all rooms left is are long can.lanes_are)
+    (subst (λ (l : List LaneRoom). CanRunParts lock main l answers (part ∷ rest)) (sym are) can)
+
+-- The others are those of the later blocks.
+pub lanes_behind : (rest : List (PartOf Step)) (rooms left : List LaneRoom) → steps_of (rooms ++ left) ≡ lanes_in (inr (steps_of rooms) ∷ rest) → steps_of left ≡ lanes_in rest
+lanes_behind rest rooms left given = (taken_rooms (steps_of rooms) (lanes_in rest) (rooms ++ left) rooms left refl (sym (length-map rooms (λ (r : LaneRoom). r.steps.now))) given).rest

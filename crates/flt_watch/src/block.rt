@@ -1,19 +1,20 @@
 //! A block: its lanes get their seats, run, and are joined.
-ghost use Rattle.std.specs.Prelude.{◌≡◌, ◌<◌, ◌≤◌, ◌+◌, ◌^◌, ◌∷◌, [], All, List, length, map, vec_len};
+ghost use Rattle.std.specs.Prelude.{◌≡◌, ◌≤◌, ◌+◌, ◌++◌, ◌∷◌, [], All, List, length, map, vec_len};
 ghost use Rattle.std.specs.Vec.{vec_capacity};
-ghost use Rattle.flt_fork.specs.Lived.{IsMain};
-ghost use Rattle.flt_life_model.specs.Room.{IsLaneRoom, steps_of, told_in};
+ghost use Rattle.std.proofs.Common.{inr};
+ghost use Rattle.flt_step.specs.declared.step.Step.{Step};
+ghost use Rattle.flt_step.specs.Part.{PartOf};
+ghost use Rattle.flt_life_model.specs.Room.{steps_of, told_in};
 ghost use Rattle.flt_life_model.specs.declared.room.LaneRoom.{LaneRoom as RoomView};
-ghost use Rattle.flt_lane.specs.Room.{all_calls};
-ghost use Rattle.flt_watch.specs.Block.{RunsLanes};
-ghost use Rattle.flt_watch.specs.Lane.{HaveRun, IsLaneFor, IsPrepared, IsSeatOf};
+ghost use Rattle.flt_watch.specs.Block.{CanRunParts, Gains};
+ghost use Rattle.flt_watch.specs.Lane.{HaveRun, IsPrepared, IsSeatOf};
 ghost use Rattle.flt_watch.specs.Seating.{AreSeated, CanJoin, CanSeat, HaveJoined, IsJoined, IsSeated};
 ghost use Rattle.flt_watch.specs.declared.lane.WatchLane.{WatchLane as LaneView};
 
 use crate::lane::{WatchLane, run_beside};
 use crate::lock::{WatchLock, WatchSeat};
 use flt_fork::{Passing, pass_all};
-use flt_lane::Gate;
+use flt_lane::{Gate, LifeAnswers};
 use flt_life_model::{CallRoom, LaneReplies, LaneRoom};
 use std::marker::Sync;
 use std::sync::Wait;
@@ -118,7 +119,7 @@ fn run_works<R: Threads + Wait + Sync, G: Gate + Sync>(
 }
 
 /// Runs the lanes of a block, and puts their answers behind those that are there. No memory is taken: there is room for the seats
-/// in `works`, and in `told` for the answers.
+/// in `works`, and in `answers` for the answers.
 pub(crate) fn run_block<'a, R: Threads + Wait + Sync, G: Gate + Sync>(
     rt: &R,
     lock: &WatchLock,
@@ -126,25 +127,21 @@ pub(crate) fn run_block<'a, R: Threads + Wait + Sync, G: Gate + Sync>(
     main: &mut WatchSeat,
     rooms: Vec<LaneRoom<'a>>,
     works: Vec<WatchLane<'a>>,
-    told: &mut Vec<LaneReplies>,
+    answers: &mut LifeAnswers,
 )
-    requires lock { IsSeatOf lock.now main.old × IsMain main.old }
-    requires room { All IsLaneRoom rooms.items }
-    requires steps { All (IsLaneFor main.old.start.config) (steps_of rooms.items) }
-    requires calls { all_calls (steps_of rooms.items) ≤ main.old.left }
-    requires children { main.old.children + length rooms.items < 2 ^ 32 }
-    requires none { works.items ≡ [] }
-    requires empty { vec_len works ≡ 0 }
+    requires can { (later : List RoomView) × (rest : List (PartOf Step))
+        × CanRunParts lock.now main.old (rooms.items ++ later) answers.old (inr (steps_of rooms.items) ∷ rest) }
+    requires empty { (works.items ≡ []) × (vec_len works ≡ 0) }
     requires seats { length rooms.items ≤ vec_capacity works }
-    requires told { vec_len told.old + length rooms.items ≤ vec_capacity told.old }
-    ensures part { RunsLanes main.old main.new (steps_of rooms.entry.items) (map told_in told.old.items) (map told_in told.new.items) }
-    ensures len { vec_len told.new ≡ vec_len told.old + length rooms.entry.items }
-    ensures capacity { vec_capacity told.new ≡ vec_capacity told.old }
-    ensures lock { IsSeatOf lock.now main.new }
-    ensures left { main.old.left ≤ main.new.left + all_calls (steps_of rooms.entry.items) }
+    ensures gains { Gains main.old main.new (inr (steps_of rooms.entry.items)) (told_in answers.old.own) (told_in answers.new.own)
+        (map told_in answers.old.told.items) (map told_in answers.new.told.items) }
+    ensures told_len { vec_len answers.new.told ≡ vec_len answers.old.told + length (steps_of rooms.entry.items) }
+    ensures can { (later : List RoomView) (rest : List (PartOf Step))
+        → CanRunParts lock.now main.old (rooms.entry.items ++ later) answers.old (inr (steps_of rooms.entry.items) ∷ rest)
+        → CanRunParts lock.now main.new later answers.new rest }
 {
     let mut works = works;
     seat_lanes(lock, main, rooms, &mut works);
     run_works(rt, lock, gate, &mut works);
-    join_lanes(lock, main, works, told);
+    join_lanes(lock, main, works, &mut answers.told);
 }

@@ -72,7 +72,7 @@ fn run_part<'a, R: Threads + Wait + Sync, G: Gate + Sync>(
         Part::Lanes(block) => {
             let rooms = next_lanes(alloc, block.len(), lanes)?;
             let works = Vec::with_capacity(alloc, block.len())?;
-            run_block(rt, lock, gate, main, rooms, works, &mut answers.told);
+            run_block(rt, lock, gate, main, rooms, works, answers);
             Ok(())
         }
     }
