@@ -23,7 +23,7 @@ pub struct LaneReplies {
 }
 
 impl LaneReplies {
-    /// No answer yet, with room for this many, and for this many bytes of responses. The error means that memory ran out.
+    /// No answer yet, with room for this many, and for this many bytes of them. The error means that memory ran out.
     pub fn with_room(alloc: Global, answers: usize, bytes: usize) -> Result<LaneReplies, AllocError>
         requires few { bytes < 2 ^ 32 }
         ensures none { IfOk result (λ replies. replies.answers.items ≡ []) }
@@ -36,7 +36,7 @@ impl LaneReplies {
         Ok(LaneReplies { answers, responses })
     }
 
-    /// Keeps the answer to one more step, with the bytes of its response if it has one.
+    /// Keeps the answer to one more step, with these bytes of its response if it has one.
     #[inline(always)]
     pub fn keep(&mut self, answer: StepAnswer<ReplyKind>, response: &[u8])
         requires answers { vec_len self.old.answers < vec_capacity self.old.answers }

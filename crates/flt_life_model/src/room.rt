@@ -161,7 +161,7 @@ fn add_lanes<'a>(
     Ok(())
 }
 
-/// What the answers to some parts need: how many lane 0 gives, the bytes of its responses, and the lanes of all blocks.
+/// What the answers to some parts need: how many lane 0 gives, how many bytes they have at most, and the lanes of all blocks.
 #[derive(Drop)]
 struct Needs<'a> {
     answers: usize,
