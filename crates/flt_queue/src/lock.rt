@@ -57,7 +57,7 @@ impl QueueLock {
     }
 
     /// Makes a call when its turn comes. The answer has only the kind of the reply, and a job that is taken is written in place of what
-    /// `job` holds, so that no reply of a job's size is moved.
+    /// `job` holds, so that no reply of a job's size is moved. Where no job is taken, `job` holds anything.
     #[inline(always)]
     pub fn call_into<R: Wait>(
         &self,

@@ -114,7 +114,7 @@ impl JobQueue {
     }
 
     /// Carries out a call as `apply` does. The answer has only the kind of the reply, and a job that is taken is written in place of
-    /// what `job` holds, so that no reply of a job's size is moved. Any other call leaves `job` as it is.
+    /// what `job` holds, so that no reply of a job's size is moved. Where no job is taken, `job` holds anything.
     #[inline(always)]
     pub fn apply_into(&mut self, op: &QueueOp, job: &mut Job) -> QueueKind
         requires admitted { IsAdmitted self.old.blocks op.now }
