@@ -1,5 +1,5 @@
 -- What is done over a device.
-use Rattle.std.specs.Prelude.{ℕ, ◌≤◌, Bool, true, false, Option, Some, None}
+use Rattle.std.specs.Prelude.{◌≤◌, Bool, true, false, Option, Some, None}
 use Rattle.flt_run.specs.declared.command.Command.{Command}
 use Rattle.flt_run.specs.declared.command.Command.TheVariants.{Run, Check, Load}
 

@@ -1,7 +1,8 @@
 //! What a run comes to by its command, before it is told: the lives of its script over a device, or an answer without lives, and the
 //! device as they left it. It comes to nothing if memory runs out.
-ghost use Rattle.std.specs.Prelude.{◌≡◌, ◌≢◌, ◌≤◌, Some, All, IfSome};
+ghost use Rattle.std.specs.Prelude.{◌≡◌, ◌≢◌, ◌≤◌, List, Some, All, IfSome};
 ghost use Rattle.flt_flash.specs.Blocks.{device_of};
+ghost use Rattle.flt_config.specs.declared.config.DidUse.{DidUse};
 ghost use Rattle.flt_did.specs.Serves.{Serves};
 ghost use Rattle.flt_did.specs.Table.{dids_of};
 ghost use Rattle.flt_step.specs.Part.{parts_of};
@@ -13,13 +14,14 @@ ghost use Rattle.flt_life_model.specs.Lives.{lists};
 ghost use Rattle.flt_lives.specs.Alone.{AreAlone};
 ghost use Rattle.flt_lives.specs.Devices.{LivesOn, ServesAll};
 ghost use Rattle.flt_run.specs.Command.{IsInRange, plain_of};
-ghost use Rattle.flt_run.specs.Ending.{ComesTo};
-ghost use Rattle.flt_run.specs.Scripted.{IsScriptFor, ending_by};
+ghost use Rattle.flt_run.specs.Ending.{ComesTo, IsAccepted};
+ghost use Rattle.flt_run.specs.Scripted.{IsLoaded, IsScriptFor, ending_by};
 ghost use Rattle.flt_run.specs.Seen.{inside_of};
 
 use crate::command::Command;
 use crate::ending::Ending;
 use crate::engine::run_in_lanes;
+use crate::line::accepted_line;
 use crate::made::Made;
 use flt_config::ValidConfig;
 use flt_dcm::Unit;
@@ -58,6 +60,7 @@ fn made_of(script: Script, lives: Option<Vec<Life>>) -> Option<Made>
 
 /// Makes the lives of a script without blocks of lanes, one after the other, up to the first that is refused, on a machine without a
 /// lock.
+#[inline(never)]
 fn live_alone<D: Driver>(
     alloc: Global,
     device: D::Device,
@@ -80,6 +83,7 @@ fn live_alone<D: Driver>(
 
 /// Makes the lives of a script one after the other, up to the first that is refused, all calls of a life under two locks, of the status
 /// machine and of the queue, and the lanes of a block at the same time. Each step is made between the two calls of the gate.
+#[inline(never)]
 fn live_in_lanes<R: Threads + Wait + Sync, G: SharedGate, D: Driver>(
     rt: &R,
     gate: &G,
@@ -100,6 +104,19 @@ fn live_in_lanes<R: Threads + Wait + Sync, G: SharedGate, D: Driver>(
     run_in_lanes::<R, G, D>(rt, gate, alloc, device, &script.config, dids, &script.lives)
 }
 
+/// The script of a load.
+#[inline(never)]
+fn loaded(alloc: Global, count: u32, lanes: bool) -> Fetched
+    requires some { 1 ≤ count }
+    requires few { count ≤ 60000 }
+    ensures { (dids : List DidUse) → IsLoaded dids count lanes result }
+{
+    match load(alloc, count, lanes) {
+        Ok(script) => Fetched::Script(script),
+        Err(_) => Fetched::Memory,
+    }
+}
+
 /// The script of a command: that of the source, or that of a load, which reads nothing.
 fn script_for<S: Source>(
     alloc: Global,
@@ -111,12 +128,18 @@ fn script_for<S: Source>(
     ensures { IsScriptFor (dids_of dids.now) (S.left source.old) (S.left source.new) (S.faults source.old) (S.faults source.new) command result }
 {
     match command {
-        Command::Run => fetch(alloc, source, dids),
-        Command::Check => fetch(alloc, source, dids),
-        Command::Load { count, lanes } => match load(alloc, count, lanes) {
-            Ok(script) => Fetched::Script(script),
-            Err(_) => Fetched::Memory,
-        },
+        Command::Run | Command::Check => fetch(alloc, source, dids),
+        Command::Load { count, lanes } => loaded(alloc, count, lanes),
+    }
+}
+
+/// How a check ends of a script; nothing if memory ran out.
+fn accepted(alloc: Global, script: &Script) -> Option<Ending>
+    ensures { IfSome result (λ ending. IsAccepted (content script.now) ending) }
+{
+    match accepted_line(alloc, script) {
+        Ok(line) => Some(Ending::Accepted(line)),
+        Err(_) => None,
     }
 }
 
@@ -150,6 +173,7 @@ fn plain_of(command: Option<Command>) -> Option<Command>
 }
 
 /// Carries out a command that needs no lock; each other command is answered as none.
+#[inline(never)]
 pub(crate) fn perform_plain<S: Source, D: Driver>(
     alloc: Global,
     command: Option<Command>,
@@ -170,7 +194,7 @@ pub(crate) fn perform_plain<S: Source, D: Driver>(
     match script_for(alloc, command, source, &dids) {
         Fetched::Script(script) => {
             if let Command::Check = command {
-                return (Some(Ending::Accepted(script)), device);
+                return (accepted(alloc, &script), device);
             }
             let Run { lives, device } = live_alone::<D>(alloc, device, &script, dids);
             (
