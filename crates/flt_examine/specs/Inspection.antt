@@ -44,15 +44,15 @@ abbrev pub script_due : ScriptFault → Due
 script_due fault = record { status = 2; text = script_fault_line fault }
 
 -- A dump, or why bytes are none.
-abbrev pub due_by : Result DumpContent Fault → Due
-due_by (Ok dump) = image_due dump
-due_by (Err (no_script fault)) = script_due fault
-due_by (Err begun) = line_due 2 (codes "script other")
-due_by (Err (no_page number)) = line_due 10 (codes "dump line " ++ decimal number)
+abbrev pub inspection_due : Result DumpContent Fault → Due
+inspection_due (Ok dump) = image_due dump
+inspection_due (Err (no_script fault)) = script_due fault
+inspection_due (Err begun) = line_due 2 (codes "script other")
+inspection_due (Err (no_page number)) = line_due 10 (codes "dump line " ++ decimal number)
 
 -- What is due of bytes, where the table has these data identifiers.
 abbrev pub inspected : List DidUse → List ℕ → Due
-inspected dids bytes = due_by (dump_of dids bytes)
+inspected dids bytes = inspection_due (dump_of dids bytes)
 
 abbrev pub IsInspected : List DidUse → List ℕ → Due → Type 0
 IsInspected dids bytes due = due ≡ inspected dids bytes

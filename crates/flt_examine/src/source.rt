@@ -1,6 +1,6 @@
 //! The source of a run that is traced.
 ghost use Rattle.std.specs.Prelude.{◌≡◌, Some};
-ghost use Rattle.flt_examine.specs.Source.{bytes_in};
+ghost use Rattle.flt_examine.specs.Source.{bytes_left_in};
 
 use flt_io::{Failed, Source};
 
@@ -13,14 +13,14 @@ pub(crate) struct Held<'a> {
 impl<'a> Held<'a> {
     /// A source of these bytes.
     pub(crate) fn new(bytes: &'a [u8]) -> Held<'a>
-        ensures { bytes_in result ≡ bytes.now }
+        ensures { bytes_left_in result ≡ bytes.now }
     {
         Held { left: bytes }
     }
 }
 
 impl Source for Held<'_> {
-    ghost left = { λ s. Some (bytes_in s) };
+    ghost left = { λ s. Some (bytes_left_in s) };
 
     ghost faults = { λ s. 0 };
 

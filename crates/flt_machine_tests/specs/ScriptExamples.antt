@@ -37,14 +37,14 @@ abbrev pub event_line : List ℕ → List ℕ
 event_line pairs = codes "event 0 dtc 000001 " ++ pairs
 
 -- The events that the first line of a script gives, where it is not refused.
-abbrev pub events_of : List ℕ → Option (List EventCfg)
-events_of text = option_map (λ b. b.config.events.items) (result_ok (with_text [] 1 blank text))
+abbrev pub events_of_text : List ℕ → Option (List EventCfg)
+events_of_text text = option_map (λ b. b.config.events.items) (result_ok (with_text [] 1 blank text))
 
 -- Whether a number of the first line of a script is out of its range.
 abbrev pub is_out : List ℕ → Bool
 is_out text = holds [] blank text Range
 
--- An event of this DTC with these numbers, and with the defaults for the rest.
+-- An event of this DTC, with the defaults for the rest.
 abbrev pub event_of_load : ℕ → EventCfg
 event_of_load dtc = record {
   dtc = dtc;
@@ -61,7 +61,7 @@ event_of_load dtc = record {
 
 -- Each number of an event is kept up to its greatest value: 255, 1 of the lamp, and 65,535 of times.
 pub record NumbersOfAnEvent : Type 0 where
-  pub all : events_of (event_line (codes "prio 255 cycle 255 confirm 255 heal 255 age 255 lamp 1 needs 255 time 65535 65535")) ≡
+  pub all : events_of_text (event_line (codes "prio 255 cycle 255 confirm 255 heal 255 age 255 lamp 1 needs 255 time 65535 65535")) ≡
       Some (record {
         dtc = 1;
         priority = 255;
@@ -86,13 +86,13 @@ pub record NumbersOfAnEvent : Type 0 where
   pub pass_time : is_out (event_line (codes "time 0 65536")) ≡ true
 
 -- An event of the defaults, which is debounced so.
-abbrev pub debounced : Debounce → EventCfg
-debounced by = record (event_of_load 1) { debounce = by }
+abbrev pub event_debounced_by : Debounce → EventCfg
+event_debounced_by by = record (event_of_load 1) { debounce = by }
 
 -- The numbers of a counter are kept up to 32,767, but that at which it passes up to 32,768, and jumps from -32,768 on.
 pub record NumbersOfACounter : Type 0 where
-  pub all : events_of (event_line (codes "count 32767 32768 32767 32767 jumpup 32767 jumpdown -32768"))
-      ≡ Some (debounced (Counter (pos 32767) (negsuc 32767) (pos 32767) (pos 32767) (Some (pos 32767)) (Some (negsuc 32767))) ∷ [])
+  pub all : events_of_text (event_line (codes "count 32767 32768 32767 32767 jumpup 32767 jumpdown -32768"))
+      ≡ Some (event_debounced_by (Counter (pos 32767) (negsuc 32767) (pos 32767) (pos 32767) (Some (pos 32767)) (Some (negsuc 32767))) ∷ [])
   pub in_range : is_out (event_line (codes "count 32767 32768 32767 32767 jumpup 32767 jumpdown -32768")) ≡ false
   pub fail : is_out (event_line (codes "count 32768 1 1 1")) ≡ true
   pub pass : is_out (event_line (codes "count 1 32769 1 1")) ≡ true

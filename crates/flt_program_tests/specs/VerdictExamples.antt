@@ -12,42 +12,42 @@ use Rattle.flt_filter.specs.Verdict.{Due, large_due, unread_due}
 use Rattle.flt_dump.specs.Dump.{DumpContent, no_script, begun, no_page}
 use Rattle.flt_dump.specs.Listing.{listing_text}
 use Rattle.flt_examine.specs.Examination.{usage_due}
-use Rattle.flt_examine.specs.Inspection.{due_by, image_due, inspected}
+use Rattle.flt_examine.specs.Inspection.{inspection_due, image_due, inspected}
 use Rattle.flt_run.specs.declared.command.Command.TheVariants.{Run, Check, Load}
 use Rattle.flt_program.specs.declared.invocation.Invocation.TheVariants.{Flash, Eeprom, Watch}
 use Rattle.flt_program.specs.Words.{count_of, invocation_of}
 use Rattle.flt_watch.specs.Asked.{is_watched}
 
 -- A status, and the one line that is told.
-abbrev pub told : ℕ → List ℕ → Due
-told status line = record { status = status; text = line ++ 10 ∷ [] }
+abbrev pub one_line : ℕ → List ℕ → Due
+one_line status words = record { status = status; text = words ++ 10 ∷ [] }
 
 -- What is told of bytes that are no dump, of an input that was not read, and of words that are no command.
 pub record RefusalsOfAnInspection : Type 0 where
-  pub script : due_by (Err (no_script (record { line = 3; cause = Form }))) ≡ told 2 (codes "script line 3 form")
-  pub other : due_by (Err begun) ≡ told 2 (codes "script other")
-  pub page : due_by (Err (no_page 12)) ≡ told 10 (codes "dump line 12")
-  pub unread : unread_due ≡ told 3 (codes "read fault")
-  pub large : large_due ≡ told 9 (codes "input large")
-  pub usage : usage_due ≡ told 1 (codes "usage: flt_inspect inspect | trace | audit")
+  pub script : inspection_due (Err (no_script (record { line = 3; cause = Form }))) ≡ one_line 2 (codes "script line 3 form")
+  pub other : inspection_due (Err begun) ≡ one_line 2 (codes "script other")
+  pub page : inspection_due (Err (no_page 12)) ≡ one_line 10 (codes "dump line 12")
+  pub unread : unread_due ≡ one_line 3 (codes "read fault")
+  pub large : large_due ≡ one_line 9 (codes "input large")
+  pub usage : usage_due ≡ one_line 1 (codes "usage: flt_inspect inspect | trace | audit")
 
 -- A line with its end.
-abbrev pub line : List ℕ → List ℕ
-line words = words ++ 10 ∷ []
+abbrev pub with_feed : List ℕ → List ℕ
+with_feed words = words ++ 10 ∷ []
 
 -- Lines are counted from 1 over the whole input: the first page behind two lines is line 3. A step before the image is no dump, and bytes without
 -- the line `image` are none by their first line.
 pub record LinesOfADump : Type 0 where
-  pub first_page : inspected [] (line (codes "event 0 dtc 000001") ++ line (codes "image") ++ line (codes "FF")) ≡ told 10 (codes "dump line 3")
-  pub no_pages : inspected [] (line (codes "image")) ≡ told 10 (codes "dump line 2")
-  pub step : inspected [] (line (codes "save") ++ line (codes "image")) ≡ told 2 (codes "script other")
-  pub wrong : inspected [] (line (codes "memory 16") ++ line (codes "memory") ++ line (codes "image")) ≡ told 2 (codes "script line 2 form")
-  pub no_image : inspected [] (line (codes "memory 16")) ≡ told 2 (codes "script line 1 form")
+  pub first_page : inspected [] (with_feed (codes "event 0 dtc 000001") ++ with_feed (codes "image") ++ with_feed (codes "FF")) ≡ one_line 10 (codes "dump line 3")
+  pub no_pages : inspected [] (with_feed (codes "image")) ≡ one_line 10 (codes "dump line 2")
+  pub step : inspected [] (with_feed (codes "save") ++ with_feed (codes "image")) ≡ one_line 2 (codes "script other")
+  pub wrong : inspected [] (with_feed (codes "memory 16") ++ with_feed (codes "memory") ++ with_feed (codes "image")) ≡ one_line 2 (codes "script line 2 form")
+  pub no_image : inspected [] (with_feed (codes "memory 16")) ≡ one_line 2 (codes "script line 1 form")
 
 -- The generation that is held is told with status 0, before the lines of the image.
 abbrev pub HeldIsTold : Type 0
 HeldIsTold = (dump : DumpContent) (held : Generation) → image_held dump.config dump.image ≡ Ok held
-    → image_due dump ≡ record { status = 0; text = line (codes "generation " ++ decimal held.number) ++ listing_text dump.config.pages numbers dump.image }
+    → image_due dump ≡ record { status = 0; text = with_feed (codes "generation " ++ decimal held.number) ++ listing_text dump.config.pages numbers dump.image }
 
 -- A load has 1 to 60,000 reports, in one to five digits.
 pub record ReportsOfALoad : Type 0 where

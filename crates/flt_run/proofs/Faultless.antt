@@ -7,10 +7,10 @@ use Rattle.flt_script.specs.Script.{ScriptContent, script_of}
 use Rattle.flt_run.specs.declared.command.Command.{Command}
 use Rattle.flt_run.specs.declared.command.Command.TheVariants.{Run, Check, Load}
 use Rattle.flt_script.specs.Fetched.{read_of}
-use Rattle.flt_run.specs.Ending.{Inside, Outside, IsFaultless, IsLastFine, LivesHaveCause, StatusesHaveCauses, is_among}
+use Rattle.flt_run.specs.Ending.{Inside, Outside, IsFaultless, IsLastFine, LivesHaveCause, StatusesHaveCauses, is_status_among}
 
 -- A number that is among some is the first of them, or among the others.
-first_or_later : (status one : ℕ) (rest : List ℕ) → IsTrue (is_among status (one ∷ rest)) → (one ≡ status) ⊎ IsTrue (is_among status rest)
+first_or_later : (status one : ℕ) (rest : List ℕ) → IsTrue (is_status_among status (one ∷ rest)) → (one ≡ status) ⊎ IsTrue (is_status_among status rest)
 first_or_later status one rest among = ⊎_elim (λ yes. inl (eqb-true one status yes)) (λ no. inr (rw no at among)) (cases_Bool (one == status))
 
 -- The bytes are told, and are a script.
@@ -29,34 +29,34 @@ lives_fine inside status (Some script) ends last =
 module _ (dids : List DidUse) (inside : Inside) (outside : Outside) (status : ℕ) (script : Option ScriptContent) where
   module _ (command : Option Command) (causes : StatusesHaveCauses dids inside outside command script status) (fine : IsFaultless dids inside outside command script) where
     abbrev Good : Type 0
-    Good = IsTrue (is_among status (0 ∷ 7 ∷ []))
+    Good = IsTrue (is_status_among status (0 ∷ 7 ∷ []))
 
     good_zero : status ≡ 0 → Good
-    good_zero e = subst (λ s. IsTrue (is_among s (0 ∷ 7 ∷ []))) (sym e) refl
+    good_zero e = subst (λ s. IsTrue (is_status_among s (0 ∷ 7 ∷ []))) (sym e) refl
 
     good_seven : status ≡ 7 → Good
-    good_seven e = subst (λ s. IsTrue (is_among s (0 ∷ 7 ∷ []))) (sym e) refl
+    good_seven e = subst (λ s. IsTrue (is_status_among s (0 ∷ 7 ∷ []))) (sym e) refl
 
-    by_lives : IsTrue (is_among status (0 ∷ 5 ∷ 6 ∷ 8 ∷ [])) → Good
+    by_lives : IsTrue (is_status_among status (0 ∷ 5 ∷ 6 ∷ 8 ∷ [])) → Good
     by_lives among = good_zero (lives_fine inside status script (causes.lives fine.makes among) fine.last)
 
-    among_lives : (one : ℕ) → IsTrue (is_among one (0 ∷ 5 ∷ 6 ∷ 8 ∷ [])) → one ≡ status → Good
-    among_lives one is e = by_lives (subst (λ s. IsTrue (is_among s (0 ∷ 5 ∷ 6 ∷ 8 ∷ []))) e is)
+    among_lives : (one : ℕ) → IsTrue (is_status_among one (0 ∷ 5 ∷ 6 ∷ 8 ∷ [])) → one ≡ status → Good
+    among_lives one is e = by_lives (subst (λ s. IsTrue (is_status_among s (0 ∷ 5 ∷ 6 ∷ 8 ∷ []))) e is)
 
-    from_four : IsTrue (is_among status (4 ∷ 5 ∷ 6 ∷ 7 ∷ 8 ∷ [])) → Good
+    from_four : IsTrue (is_status_among status (4 ∷ 5 ∷ 6 ∷ 7 ∷ 8 ∷ [])) → Good
     from_four among = ⊎_elim (λ e. absurd (fine.sink (causes.unwritable (sym e)))) (λ more. ⊎_elim (among_lives 5 refl) (λ more. ⊎_elim (among_lives 6 refl)
         (λ more. ⊎_elim (λ e. good_seven (sym e)) (λ more. ⊎_elim (among_lives 8 refl) (λ none. absurd (false≢true none)) (first_or_later status 8 [] more))
         (first_or_later status 7 (8 ∷ []) more)) (first_or_later status 6 (7 ∷ 8 ∷ []) more)) (first_or_later status 5 (6 ∷ 7 ∷ 8 ∷ []) more))
         (first_or_later status 4 (5 ∷ 6 ∷ 7 ∷ 8 ∷ []) among)
 
-    from_read : IsTrue (is_among status (0 ∷ 3 ∷ 4 ∷ 5 ∷ 6 ∷ 7 ∷ 8 ∷ [])) → Good
+    from_read : IsTrue (is_status_among status (0 ∷ 3 ∷ 4 ∷ 5 ∷ 6 ∷ 7 ∷ 8 ∷ [])) → Good
     from_read among = ⊎_elim (λ e. good_zero (sym e)) (λ more. ⊎_elim (λ e. absurd (fine.source (causes.unreadable (sym e)))) from_four
         (first_or_later status 3 (4 ∷ 5 ∷ 6 ∷ 7 ∷ 8 ∷ []) more)) (first_or_later status 0 (3 ∷ 4 ∷ 5 ∷ 6 ∷ 7 ∷ 8 ∷ []) among)
 
-    from_load : IsTrue (is_among status (0 ∷ 4 ∷ 5 ∷ 6 ∷ 7 ∷ 8 ∷ [])) → Good
+    from_load : IsTrue (is_status_among status (0 ∷ 4 ∷ 5 ∷ 6 ∷ 7 ∷ 8 ∷ [])) → Good
     from_load among = ⊎_elim (λ e. good_zero (sym e)) from_four (first_or_later status 0 (4 ∷ 5 ∷ 6 ∷ 7 ∷ 8 ∷ []) among)
 
-  pub faultless_ends : (command : Option Command) → StatusesHaveCauses dids inside outside command script status → IsFaultless dids inside outside command script → IsTrue (is_among status (0 ∷ 7 ∷ []))
+  pub faultless_ends : (command : Option Command) → StatusesHaveCauses dids inside outside command script status → IsFaultless dids inside outside command script → IsTrue (is_status_among status (0 ∷ 7 ∷ []))
   faultless_ends None causes fine = absurd (false≢true fine.makes)
   faultless_ends (Some Run) causes fine = from_read (Some Run) causes fine (told_script dids inside.left (fine.good refl) (causes.completed refl))
   faultless_ends (Some Check) causes fine = absurd (false≢true fine.makes)

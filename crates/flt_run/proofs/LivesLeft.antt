@@ -11,7 +11,7 @@ use Rattle.flt_life_model.specs.declared.life.Life.{Life}
 use Rattle.flt_life_model.specs.Lives.{lists}
 use Rattle.flt_report.specs.Life.{life_text}
 use Rattle.flt_run.specs.Left.{lives_left}
-use Rattle.flt_run.specs.Report.{lives_text, last_text}
+use Rattle.flt_run.specs.Report.{lives_text, last_life_text}
 
 pub lives_more : {A : Type 0} (script : List (Vec Part A)) (lives : List Life) (index : ℕ) (parts : Vec Part A) (life : Life) → index < length script → index < length lives
     → lives_left script lives index ≡ life_text (index + 1) (parts_of (get_or script index parts).items) (get_or lives index life).boot (get_or lives index life).replies.items ++ lives_left script lives (index + 1)
@@ -36,5 +36,5 @@ lives_end script lives index past = elim (cases_lt index (length script)) [
 ]
 
 -- The last life alone.
-pub last_is_left : {A : Type 0} (script : List (Vec Part A)) (lives : List Life) → lives_left script lives (length lives - 1) ≡ last_text (lists script) lives
+pub last_is_left : {A : Type 0} (script : List (Vec Part A)) (lives : List Life) → lives_left script lives (length lives - 1) ≡ last_life_text (lists script) lives
 last_is_left {A = A} script lives = ap (λ rest. lives_text (length lives - 1 + 1) rest (drop (length lives - 1) lives)) (sym (drop-map (λ (life : Vec Part A). parts_of life.items) (length lives - 1) script))

@@ -12,7 +12,7 @@ use Rattle.flt_run.specs.declared.command.Command.TheVariants.{Run, Check, Load}
 use Rattle.flt_run.specs.declared.ending.Ending.TheVariants.{Refused, Unreadable, Accepted}
 use Rattle.flt_run.specs.declared.ending.Ending.{Ending}
 use Rattle.flt_run.specs.declared.ending.Ending.TheVariants as endings
-use Rattle.flt_run.specs.Ending.{EndingHasCause, Inside, IsAccepted, IsUntouched}
+use Rattle.flt_run.specs.Ending.{EndingHasCause, Inside, TellsAccepted, IsUntouched}
 use Rattle.flt_run.specs.Scripted.{HasScript, IsScriptFor}
 
 module _ (dids : List DidUse) (inside : Inside) where
@@ -41,7 +41,7 @@ module _ (dids : List DidUse) (inside : Inside) where
   unreadable Check same is = (refl, is, (refl, same))
   unreadable (Load count lanes) same is = absurd is.0
 
-  pub accepted : (script : Script) (ending : Ending) → IsAccepted (content script) ending → IsUntouched inside → For Check (fetched.Script script)
+  pub accepted : (script : Script) (ending : Ending) → TellsAccepted (content script) ending → IsUntouched inside → For Check (fetched.Script script)
       → EndingHasCause dids inside (Some Check) None ending
   accepted script (Accepted line) text same is = (refl, is.0, (content script, is.1, text), (refl, same))
   accepted script endings.Usage text same is = absurd text

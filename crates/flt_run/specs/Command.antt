@@ -19,11 +19,11 @@ plain_of (Some (Load count true)) = None
 plain_of (Some (Load count false)) = Some (Load count false)
 
 -- A command that reads a script.
-abbrev pub reads : Option Command → Bool
-reads None = false
-reads (Some Run) = true
-reads (Some Check) = true
-reads (Some (Load count lanes)) = false
+abbrev pub reads_script : Option Command → Bool
+reads_script None = false
+reads_script (Some Run) = true
+reads_script (Some Check) = true
+reads_script (Some (Load count lanes)) = false
 
 -- A command that makes lives.
 abbrev pub makes_lives : Option Command → Bool

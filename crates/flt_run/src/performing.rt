@@ -14,7 +14,7 @@ ghost use Rattle.flt_life_model.specs.Lives.{lists};
 ghost use Rattle.flt_lives.specs.Alone.{AreAlone};
 ghost use Rattle.flt_lives.specs.Devices.{LivesOn, ServesAll};
 ghost use Rattle.flt_run.specs.Command.{IsInRange, plain_of};
-ghost use Rattle.flt_run.specs.Ending.{ComesTo, IsAccepted};
+ghost use Rattle.flt_run.specs.Ending.{ComesTo, TellsAccepted};
 ghost use Rattle.flt_run.specs.Scripted.{IsLoaded, IsScriptFor, ending_by};
 ghost use Rattle.flt_run.specs.Seen.{inside_of};
 
@@ -135,7 +135,7 @@ fn script_for<S: Source>(
 
 /// How a check ends of a script; nothing if memory ran out.
 fn accepted(alloc: Global, script: &Script) -> Option<Ending>
-    ensures { IfSome result (λ ending. IsAccepted (content script.now) ending) }
+    ensures { IfSome result (λ ending. TellsAccepted (content script.now) ending) }
 {
     match accepted_line(alloc, script) {
         Ok(line) => Some(Ending::Accepted(line)),
