@@ -1,13 +1,8 @@
 -- What the program hands to a run, and what it makes of how the run ended.
-use Rattle.std.specs.Prelude.{◌≡◌, ◌==◌, ◌⊎◌, ℕ, List, [], ◌∷◌, Option, if◌then◌else◌}
+use Rattle.std.specs.Prelude.{◌≡◌, ◌==◌, ◌⊎◌, ℕ, List, [], ◌∷◌, if◌then◌else◌}
 use Rattle.flt_io.specs.Fault.{Rose}
-use Rattle.flt_notify.specs.declared.table.SubTable.{SubTable}
-use Rattle.flt_run.specs.declared.command.Command.{Command}
-use Rattle.flt_run.specs.declared.running.Outcome.{Outcome}
-use Rattle.flt_watch.specs.declared.watching.WatchOutcome.{WatchOutcome}
 use Rattle.flt_program.specs.declared.choosing.Ended.{Ended}
-use Rattle.flt_program.specs.declared.invocation.Invocation.{Invocation}
-use Rattle.flt_program.specs.Program.{EndsOn, status_of}
+use Rattle.flt_program.specs.Program.{status_of}
 
 -- The kinds of value that have a subscriber, each of which is told of the changes of a watch.
 abbrev pub program_kinds : List ℕ
@@ -22,11 +17,9 @@ abbrev pub IsExit : (faults faults_after : ℕ) → (status exit : ℕ) → Type
 IsExit faults faults_after status exit =
     ((faults_after ≡ faults) × (exit ≡ status)) ⊎ (Rose faults faults_after × (exit ≡ lost_status status))
 
--- The program ended as it was invoked, with these subscribers, and this is the exit status of that. The faults are those of the sink, before the
--- end of the report was written and after that.
-pub record Exits {B E : Type 0} {n : ℕ} {F : _} {g : _} (subs : SubTable n F g) (invocation : Invocation)
-    (over_flash : Option Command → Outcome B → Type 0) (over_eeprom : Option Command → Outcome E → Type 0) (watches : WatchOutcome F g → Type 0)
-    (faults faults_after exit : ℕ) : Type 0 where
+-- The program ended in a way of which this holds, and this is the exit status of that. The faults are those of the sink, before the end of the report was
+-- written and after that.
+pub record Exits {B E : Type 0} {F : _} {g : _} (Ends : Ended B E F g → Type 0) (faults faults_after exit : ℕ) : Type 0 where
   pub ended : Ended B E F g
-  pub ends : EndsOn invocation over_flash over_eeprom watches ended
+  pub ends : Ends ended
   pub exit_is : IsExit faults faults_after (status_of ended) exit

@@ -1,14 +1,11 @@
 //! The call that does what the words ask for.
-ghost use Rattle.std.specs.Prelude.{◌≡◌, ◌≤◌, map};
+ghost use Rattle.std.specs.Prelude.{◌≡◌, map};
 ghost use Rattle.std.specs.String.{string_bytes};
 ghost use Rattle.flt_did.specs.Table.{dids_of};
-ghost use Rattle.flt_lives.specs.Media.{sectors, units};
-ghost use Rattle.flt_notify.specs.Table.{IsAtZero, kinds_in, values_in};
-ghost use Rattle.flt_run.specs.Ending.{Runs};
+ghost use Rattle.flt_notify.specs.Table.{IsAtZero};
 ghost use Rattle.flt_run.specs.Seen.{inside_of, outside_of};
 ghost use Rattle.flt_filter.specs.Verdict.{reading_of, writing_of};
-ghost use Rattle.flt_watch.specs.Watch.{Watches};
-ghost use Rattle.flt_program.specs.Program.{EndsOn};
+ghost use Rattle.flt_program.specs.Program.{EndsOver, IsEepromForAll, IsFlashForAll};
 ghost use Rattle.flt_program.specs.Words.{invocation_of};
 
 use crate::invocation::{Invocation, read_words};
@@ -77,23 +74,12 @@ pub fn program<
     subs: SubTable<KINDS>,
     gate: &G,
 ) -> Ended<B, E>
-    requires pages { (B.state flash).pages ≡ 1024 }
-    requires boots { 256 ≤ (B.state flash).bench.boots_left }
-    requires unarmed { (B.state flash).bench.armed ≡ 0 }
-    requires units { 1090 ≤ (E.state eeprom).pages }
-    requires eeprom_boots { 256 ≤ (E.state eeprom).bench.boots_left }
-    requires eeprom_unarmed { (E.state eeprom).bench.armed ≡ 0 }
+    requires flash { IsFlashForAll (B.state flash) }
+    requires eeprom { IsEepromForAll (E.state eeprom) }
     requires zero { IsAtZero subs }
-    ensures { EndsOn (invocation_of (map string_bytes words.now))
-        (λ command outcome. Runs (dids_of dids)
-        (inside_of S.left S.faults source.old source.new sectors (B.state flash) (B.state outcome.device)) (outside_of K.held K.faults sink.old sink.new)
-        command outcome.status outcome.lives.items)
-        (λ command outcome. Runs (dids_of dids)
-        (inside_of S.left S.faults source.old source.new units (E.state eeprom) (E.state outcome.device)) (outside_of K.held K.faults sink.old sink.new)
-        command outcome.status outcome.lives.items)
-        (λ outcome. Watches (dids_of dids) (reading_of S.left S.faults source.old source.new) (writing_of K.held K.faults sink.old sink.new)
-        (kinds_in subs) (values_in subs) outcome)
-        result }
+    ensures { EndsOver B.state E.state (dids_of dids) (inside_of S.left S.faults source.old source.new) (outside_of K.held K.faults sink.old sink.new)
+        (reading_of S.left S.faults source.old source.new) (writing_of K.held K.faults sink.old sink.new)
+        (B.state flash) (E.state eeprom) subs (invocation_of (map string_bytes words.now)) result }
 {
     match read_words(words) {
         Invocation::Flash(command) => Ended::Flash(run::<R, S, K, Fee<B>, G>(

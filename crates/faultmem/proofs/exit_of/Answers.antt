@@ -14,6 +14,6 @@ returns g c = (
   record {
     ended = c.program-ended.result;
     ends = c.program-ended.ensures;
-    exit_is = inr (c.in-Err.ensures.cause.failed, c.lost_status.ensures ∙ ap lost_status c.status-due.ensures);
+    exit_is = inr (c.in-Err.ensures.cause.failed, c.lost_status.ensures.named ∙ ap lost_status c.status-due.ensures);
   },
 )
