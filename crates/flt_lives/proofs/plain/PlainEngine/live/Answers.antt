@@ -1,4 +1,4 @@
-use Rattle.std.proofs.Common.{[], ◌∙◌, ap, subst, arith}
+use Rattle.std.proofs.Common.{[], ◌∙◌, ap, subst, arith, rules}
 use Rattle.std.proofs.lemmas.List.{length-map}
 use Rattle.flt_flash.specs.declared.blocks.Blocks.{Ghosts}
 use Rattle.flt_config.specs.declared.config.Config.{Config}
@@ -28,8 +28,16 @@ use Rattle.flt_lives.proofs.plain.PlainEngine.live.Goals as goal
 pub take_steps-requires-clause-possible : goal.take_steps-requires-clause-possible
 take_steps-requires-clause-possible g c = possible_alone c.args.config.now (parts_of c.args.parts.now) c.requires.possible
 
-pub take_steps-requires-clause-alive : goal.take_steps-requires-clause-alive
-take_steps-requires-clause-alive g c = record { held = _; spare = _; running = c.requires.running }
+pub take_steps-requires-clause-ready : goal.take_steps-requires-clause-ready
+take_steps-requires-clause-ready g c =
+    let config = c.args.config.now in
+    let state = c.args.buffers.now.state in
+    let stands = subst (λ (k : Config). Stands (start_from k state) [] (state_of c.boot.new.self)) c.requires.same c.boot.ensures.stands in
+    record {
+      same = c.boot.ensures.config ∙ c.requires.same;
+      under_way = search rules;
+      alive = record { held = _; spare = _; running = c.requires.running };
+    }
 
 pub take_steps-requires-clause-arms : goal.take_steps-requires-clause-arms
 take_steps-requires-clause-arms g c =
@@ -80,7 +88,7 @@ returns-clause-leaves g c =
     let config = c.args.config.now in
     let first = numbered c.args.generation c.args.buffers.now.state in
     let stands = subst (λ (k : Config). Stands (start_from k c.args.buffers.now.state) [] (state_of c.boot.new.self)) c.requires.same c.boot.ensures.stands in
-    let living = c.take_steps.ensures.living first (begins config first c.args.store.now c.requires.running (state_of c.boot.new.self) stands) in
+    let living = c.take_steps.ensures.taken.living first (begins config first c.args.store.now c.requires.running (state_of c.boot.new.self) stands) in
     alone (λ (view : LifeView). Leaves config first view (moment_of (driver_of c.take_steps.new.store))) c.take_steps.new.account.journal.items
     c.new-queue.ensures.items c.requires.room.none_told.0 (c.life_of.ensures (parts_of c.args.parts.now))
     record {
@@ -103,7 +111,7 @@ returns-clause-caused g c = λ before rose.
     let begun = begins_caused config (numbered c.args.generation c.args.buffers.now.state) c.args.store.now c.requires.running in
     alone (λ (view : LifeView). AreCaused config before (moment_of (driver_of c.take_steps.new.store)) (told_of view)) account.journal.items
     c.new-queue.ensures.items c.requires.room.none_told.0 (c.life_of.ensures parts)
-    (are_caused config faults (deeds_told parts (told_in account.replies)) c.take_steps.new.store before rose (c.take_steps.ensures.caused faults begun))
+    (are_caused config faults (deeds_told parts (told_in account.replies)) c.take_steps.new.store before rose (c.take_steps.ensures.taken.caused faults begun))
 
 pub returns-clause-played : goal.returns-clause-played
 returns-clause-played g c =
@@ -114,7 +122,7 @@ returns-clause-played g c =
     let stands = subst (λ (k : Config). Stands (start_from k c.args.buffers.now.state) [] (state_of c.boot.new.self)) c.requires.same c.boot.ensures.stands in
     alone (λ (view : LifeView). IsPlayed config view) account.journal.items c.new-queue.ensures.items c.requires.room.none_told.0 (c.life_of.ensures parts)
     (played_by config parts c.args.generation c.args.buffers.now.state c.twin-start.result account.journal.items (told_in account.replies) c.twin-start.ensures
-    (c.take_steps.ensures.played first (begins config first c.args.store.now c.requires.running (state_of c.boot.new.self) stands)))
+    (c.take_steps.ensures.taken.played first (begins config first c.args.store.now c.requires.running (state_of c.boot.new.self) stands)))
 
 pub returns-clause-kept : goal.returns-clause-kept
 returns-clause-kept g c =
@@ -128,5 +136,5 @@ returns-clause-kept g c =
 pub returns-clause-armed : goal.returns-clause-armed
 returns-clause-armed g c =
     let same = arms_are (parts_of c.args.parts.now) in
-    let armed = c.take_steps.ensures.armed in
+    let armed = c.take_steps.ensures.gives.armed in
     omega (arith, same, armed)
