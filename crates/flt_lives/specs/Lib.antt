@@ -6,3 +6,4 @@ pub mod Steps
 pub mod Linked
 pub mod Media
 pub mod Devices
+pub mod Lives
