@@ -94,14 +94,14 @@ returns-in-Err-Flash-clause-lived g c =
     let dark = c.dark_life-life.ensures in
     let powered = powers.bench.armed in
     let begun = follows.bench.armed in
-    let armed = dark.armed in
+    let armed = dark.gives.armed in
     let whole : IsLivedThrough config first last (record { parts = parts; boot = boots.Dark; journal = []; queue = []; own = told; lanes = lanes }) = record {
       lived = lived_dark config first c.power_up.new.self c.start_up.new.self powers parts last told lanes
-          (subst (RefusedFor config c.power_up.new.self c.start_up.new.self) c.in-Err-Flash.field-0-is c.in-Err-Flash.ensures.refused) follows dark.goes_on dark.same
+          (subst (RefusedFor config c.power_up.new.self c.start_up.new.self) c.in-Err-Flash.field-0-is c.in-Err-Flash.ensures.refused) follows dark.gives.goes_on dark.same
           (keeps config second third follows c.in-Err-Flash.ensures.left) c.start_up.ensures.applications;
       played = (refl, refl, refl, refl);
-      given = subst (λ a. WereGiven (all_arms (own_actions parts)) a last.device.bench.arms) (follows.bench.arms ∙ powers.bench.arms) dark.given;
-      adds = adds_life first second powers third last follows dark.goes_on;
+      given = subst (λ a. WereGiven (all_arms (own_actions parts)) a last.device.bench.arms) (follows.bench.arms ∙ powers.bench.arms) dark.gives.given;
+      adds = adds_life first second powers third last follows dark.gives.goes_on;
       armed = omega (arith, powered, begun, armed);
     } in
     subst (λ (v : LifeView). IsLivedThrough config first last v) (sym dark.life) whole
@@ -114,7 +114,7 @@ returns-in-Err-Flash-clause-left g c =
     let powers = c.power_up.ensures.powers_up in
     let follows = c.start_up.ensures.follows in
     let dark = c.dark_life-life.ensures in
-    let adds = adds_life first second powers third (driver_of c.dark_life-life.new.store) follows dark.goes_on in
+    let adds = adds_life first second powers third (driver_of c.dark_life-life.new.store) follows dark.gives.goes_on in
     record {
       begun = one_begun first.device (driver_of c.dark_life-life.new.store).device adds.boots;
       sound = subst (λ (m : Moment). StaysSound c.args.config.now (moment_of first) m) (sym dark.same)
