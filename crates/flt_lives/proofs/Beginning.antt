@@ -1,10 +1,13 @@
 -- Lives that were begun over a device, one after the other.
 use Rattle.std.proofs.Common.{◌≡◌, ℕ, ◌<◌, ◌≤◌, List, [], ◌∷◌, ◌++◌, refl, ap, sym, subst, arith, append_assoc, ◌∙◌}
 use Rattle.std.proofs.lemmas.List.{append-nil, length-append}
+use Rattle.flt_config.specs.declared.config.Config.{Config}
 use Rattle.flt_flash.specs.State.{PowerUp}
-use Rattle.flt_flash.specs.Blocks.{DeviceState}
-use Rattle.flt_life_model.specs.Moment.{boot_in}
+use Rattle.flt_flash.specs.Blocks.{BlocksState, DeviceState}
+use Rattle.flt_life_model.specs.Lives.{StaysSound}
+use Rattle.flt_life_model.specs.Moment.{boot_in, moment_of}
 use Rattle.flt_lives.specs.Devices.{BeginsFrom, BeginsLives}
+use Rattle.flt_lives.specs.Lives.{LeavesSound}
 
 -- None.
 pub none_begun : (most : ℕ) (device : DeviceState) → BeginsLives most device device
@@ -34,3 +37,12 @@ pub begun_within : (most all : ℕ) (before after : DeviceState) → most ≤ al
 begun_within most all before after within begins =
     let few = begins.few in
     record { begun = begins.begun; boots = begins.boots; few = omega (arith, few, within); from = begins.from }
+
+-- The same with the image and the room that they leave.
+pub left_next : (c : Config) (first second third : BlocksState) (few all : ℕ) → few < all → BeginsLives few first.device second.device → StaysSound c (moment_of first) (moment_of second)
+    → second.room ≡ first.room → LeavesSound c 1 second third → LeavesSound c all first third
+left_next c first second third few all within begun sound room left = record {
+  begun = begun_next few all first.device second.device third.device within begun left.begun;
+  sound = λ h s is. (let one = sound h s is in left.sound one.0 one.1 one.2);
+  room = left.room ∙ room;
+}

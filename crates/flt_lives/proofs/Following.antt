@@ -13,14 +13,14 @@ use Rattle.flt_store.specs.Store.{driver_of}
 use Rattle.flt_store.specs.Cause.{HasRoom}
 use Rattle.flt_life_model.specs.declared.life.Life.{Life}
 use Rattle.flt_life_model.specs.Chain.{LifeView}
-use Rattle.flt_life_model.specs.Going.{AddsLife, WereGiven, WereGivenIn}
-use Rattle.flt_life_model.specs.Lives.{ArePlayed, AreEnded, arms_by, arms_given, is_refused, lists, lives_seen, view_of, views_of}
+use Rattle.flt_life_model.specs.Going.{WereGivenIn}
+use Rattle.flt_life_model.specs.Lives.{ArePlayed, AreEnded, arms_given, is_refused, lists, lives_seen, view_of, views_of}
 use Rattle.flt_life_model.specs.Moment.{Medium, boot_of}
 use Rattle.flt_life_model.specs.Played.{IsPlayed}
 use Rattle.flt_life_model.proofs.Giving.{none_added, more_given}
 use Rattle.flt_lives.specs.Devices.{BeginsLives}
 use Rattle.flt_lives.specs.Linked.{KeepsOn, IsLinkedBy}
-use Rattle.flt_lives.specs.Living.{IsLived}
+use Rattle.flt_lives.specs.Lives.{IsLivedThrough}
 use Rattle.flt_lives.proofs.Beginning.{none_begun, begun_next}
 use Rattle.flt_lives.proofs.Linking.{links_none, links_more}
 
@@ -75,10 +75,9 @@ module _ {A : Type 0} (script : List (Vec Part A)) (index : ℕ) (item : Vec Par
       ∙ ap (λ items. view_of (parts_of items) life ∷ lives_seen (lists script) made) (sym parts_are)
 
   module _ {B : Type 0} {b : Ghosts B} (c : Config) (before now after : Store B b) (so_far : AreMadeSoFar c script index before now made) where
-    pub one_made : HasRoom c (driver_of now).room → IsLived c (driver_of now) (driver_of after) (view_of (parts_of parts) life) → IsPlayed c (view_of (parts_of parts) life)
-        → WereGiven (arms_by (parts_of parts) life.boot) (driver_of now).device.bench.arms (driver_of after).device.bench.arms → AddsLife (driver_of now) (driver_of after)
-        → BeginsLives 1 (driver_of now).device (driver_of after).device → AreMadeSoFar c script (index + 1) before after next
-    one_made room lived played given adds begins =
+    pub one_made : HasRoom c (driver_of now).room → IsLivedThrough c (driver_of now) (driver_of after) (view_of (parts_of parts) life) → BeginsLives 1 (driver_of now).device (driver_of after).device → AreMadeSoFar c script (index + 1) before after next
+    one_made room whole begins =
+        let adds = whole.adds in
         let first = (driver_of before).device.bench in
         let last = (driver_of after).device.bench in
         let earlier = lives_seen (lists script) made in
@@ -93,13 +92,13 @@ module _ {A : Type 0} (script : List (Vec Part A)) (index : ℕ) (item : Vec Par
           many = omega (arith, many, longer);
           count = omega (arith, count, boots);
           begun = begun_next _ _ (driver_of before).device (driver_of now).device (driver_of after).device (omega arith) so_far.begun begins;
-          played = subst (ArePlayed c) seen (All-cons (IsPlayed c) view earlier played so_far.played);
+          played = subst (ArePlayed c) seen (All-cons (IsPlayed c) view earlier whole.played so_far.played);
           given = subst (λ (views : List LifeView). WereGivenIn (arms_given (length first.boots) views) first.arms last.arms) seen
-              (more_given (length first.boots) (length (driver_of now).device.bench.boots) lived.ended earlier view first.arms (driver_of now).device.bench.arms last.arms (omega (arith, count, size, many))
-              so_far.given lived.arms given);
+              (more_given (length first.boots) (length (driver_of now).device.bench.boots) whole.lived.ended earlier view first.arms (driver_of now).device.bench.arms last.arms (omega (arith, count, size, many))
+              so_far.given whole.lived.arms whole.given);
           linked = λ medium keeps. subst (λ (views : List LifeView). IsLinkedBy c medium (driver_of before) (driver_of after) views) seen
               (links_more c medium (driver_of before) (driver_of now) (driver_of after) earlier view (keeps now.nvm.blocks now.numbers room)
-              (keeps after.nvm.blocks after.numbers (subst (HasRoom c) (sym adds.room) room)) (so_far.linked medium keeps) lived adds);
+              (keeps after.nvm.blocks after.numbers (subst (HasRoom c) (sym adds.room) room)) (so_far.linked medium keeps) whole.lived adds);
         }
 
   -- None of them is refused, and so is none with one more that is not.

@@ -26,7 +26,7 @@ use Rattle.flt_life_model.specs.declared.life.Boot.{Boot}
 use Rattle.flt_flash.specs.State.{HasRisenBy}
 use Rattle.flt_life_model.specs.Answers.{Told}
 use Rattle.flt_life_model.specs.Causes.{AreCaused}
-use Rattle.flt_life_model.specs.Going.{ArmsSince, GoesOn}
+use Rattle.flt_life_model.specs.Going.{AddsLife, ArmsSince, GoesOn}
 use Rattle.flt_life_model.proofs.Riding.{goes_nowhere}
 
 -- A fault that does not make the life dark.
@@ -95,6 +95,20 @@ module _ (first second : BlocksState) (powers : PowersUpDriver first second) whe
       subst (λ n. ArmsSince n third.device.faults first.device.bench.arms fourth.device.bench.arms) boots
       (subst (λ a. ArmsSince (length third.device.bench.boots) third.device.faults a fourth.device.bench.arms) arms goes.arms)
 
+  -- A power-up, a start-up and the steps behind it are one life more.
+  pub adds_life : (third fourth : BlocksState) → Follows second third → GoesOn third fourth → AddsLife first fourth
+  adds_life third fourth follows goes =
+      let on = ap (λ (d : BlocksState). d.device.faults) powers.rest in
+      let rose = follows.counts in
+      let more = goes.counts in
+      record {
+        numbers = goes.numbers ∙ follows.numbers ∙ ap (λ (d : BlocksState). d.numbers) powers.rest;
+        room = goes.room ∙ follows.room ∙ ap (λ (d : BlocksState). d.room) powers.rest;
+        counts = omega (arith, on, rose, more);
+        boots = goes.boots ∙ follows.bench.boots ∙ powers.bench.boots;
+        boots_left = goes.boots_left ∙ follows.bench.boots_left ∙ powers.bench.boots_left;
+      }
+
 module _ {B : Type 0} {b : Ghosts B} (c : Config) (first : BlocksState) (before after : Store B b) (powers : PowersUpDriver first (driver_of before)) where
   pub lived_refused : (parts : List (PartOf Step)) (fault : StartFault) → Refuses fault → Follows (driver_of before) (driver_of after) → RefusedFor c before after fault
       → KeepsSound c (moment_of (driver_of before)) (moment_of (driver_of after)) → SameApplications (driver_of before).value (driver_of after).value
@@ -137,6 +151,6 @@ module _ {B : Type 0} {b : Ghosts B} (c : Config) (first : BlocksState) (before 
   }
 
 -- What holds of a result that is there.
-pub if_ok : {T E : Type 0} {P Q R S U : T → Type 0} (result : Result T E) → ((t : T) → P t → Q t → R t → S t → U t) → IfOk result P → IfOk result Q → IfOk result R → IfOk result S → IfOk result U
-if_ok (Ok t) more p q r s = more t p q r s
-if_ok (Err e) more p q r s = tt
+pub if_ok : {T E : Type 0} {P Q : T → Type 0} (result : Result T E) → ((t : T) → P t → Q t) → IfOk result P → IfOk result Q
+if_ok (Ok t) more p = more t p
+if_ok (Err e) more p = tt

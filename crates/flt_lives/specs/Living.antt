@@ -1,5 +1,5 @@
 -- A life on its way: what holds of its unit, its store, its journal and its answers after each step.
-use Rattle.std.specs.Prelude.{◌≡◌, ℕ, ◌+◌, ◌≤◌, List, [], ◌∷◌, ◌++◌, length, map, reverse, sum_by, vec_len}
+use Rattle.std.specs.Prelude.{ℕ, ◌+◌, ◌≤◌, List, [], ◌∷◌, length, map, reverse, sum_by, vec_len}
 use Rattle.std.specs.Vec.{vec_capacity}
 use Rattle.flt_flash.specs.State.{HasRisenBy}
 use Rattle.flt_flash.specs.Blocks.{BlocksState}
@@ -19,14 +19,12 @@ use Rattle.flt_life_model.specs.declared.action.Action.TheVariants.{Save, Drain,
 use Rattle.flt_life_model.specs.Actions.{call_count, response_size}
 use Rattle.flt_life_model.specs.Answers.{Told, byte_room}
 use Rattle.flt_life_model.specs.Ordered.{deeds_in}
-use Rattle.flt_life_model.specs.Room.{told_in}
-use Rattle.flt_lives.specs.Carried.{IsCarriedOut}
 use Rattle.flt_life_model.specs.Chain.{LifeView, start_from, IsLifeBetween}
 use Rattle.flt_life_model.specs.Journal.{Journal, calls_of}
 use Rattle.flt_life_model.specs.Moment.{moment_of}
 use Rattle.flt_lives.specs.declared.account.Account.{Account}
 use Rattle.flt_life_model.specs.Going.{ArmsSince}
-use Rattle.flt_life_model.specs.SoFar.{IsCaused, IsKeptSince}
+use Rattle.flt_life_model.specs.SoFar.{IsKeptSince}
 
 -- The unit stands for some calls from a base that fits a valid configuration.
 pub record IsUnderWay (c : Config) (unit : UnitView) : Type 0 where
@@ -67,13 +65,3 @@ module _ {B : Type 0} {b : Ghosts B} where
     pub spare : Generation
     pub running : IsRunning c held spare store
     pub kept : IsKeptSince c first journal told held spare
-
-  -- A step of lane 0 added its calls and its answer.
-  pub record TakesStep (c : Config) (action : Action) (unit next_unit : UnitView) (store next_store : Store B b) (before after : Account) : Type 0 where
-    pub last : Told
-    pub answers : told_in after.replies ≡ told_in before.replies ++ last ∷ []
-    pub carried : (first : Generation) → Stands (start_from c first.state) (calls_of (reverse before.journal.items)) unit
-        → IsCarriedOut (start_from c first.state) (reverse before.journal.items) action (reverse after.journal.items) last
-    pub living : (first : Generation) (told : List Told) → IsLiving c first (reverse before.journal.items) told unit store
-        → IsLiving c first (reverse after.journal.items) (with_answer action last told) next_unit next_store
-    pub caused : (begun : ℕ) (told : List Told) → IsCaused c begun told store → IsCaused c begun (with_answer action last told) next_store

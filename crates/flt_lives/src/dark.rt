@@ -1,5 +1,5 @@
 //! Lives whose start-up met three faults of the device: they make no step but arms.
-ghost use Rattle.std.specs.Prelude.{◌≡◌, ◌+◌, ◌≤◌, ◌++◌, ◌∷◌, [], ℕ, All, List, length, map, sum_by, vec_len};
+ghost use Rattle.std.specs.Prelude.{◌≡◌, ◌+◌, ◌≤◌, ◌∷◌, [], ℕ, All, List, length, map, sum_by, vec_len};
 ghost use Rattle.std.specs.Vec.{vec_capacity};
 ghost use Rattle.flt_step.specs.Part.{part_of, parts_of};
 ghost use Rattle.flt_store.specs.Store.{driver_of};
@@ -11,8 +11,8 @@ ghost use Rattle.flt_life_model.specs.Moment.{moment_of};
 ghost use Rattle.flt_life_model.specs.Parts.{arms_in, lanes_in, own_actions, own_steps};
 ghost use Rattle.flt_life_model.specs.Played.{dark_answer, dark_answers};
 ghost use Rattle.flt_life_model.specs.Room.{HasRoomForSteps, IsLaneRoom, IsLifeRoom, steps_of, told_in};
-ghost use Rattle.flt_lives.specs.Dark.{IsLaneSteps};
-ghost use Rattle.flt_life_model.specs.Going.{GoesOn, WereGiven};
+ghost use Rattle.flt_lives.specs.Dark.{AddsDarkAnswers, IsLaneSteps};
+ghost use Rattle.flt_lives.specs.Steps.{GivesArms};
 
 use flt_dcm::ReplyKind;
 use flt_flash::Blocks;
@@ -30,9 +30,7 @@ fn take_dark_step<D: Blocks + Drop>(store: &mut Store<D>, action: Action) -> Ste
     ensures answer { (response : List ℕ) → told_with response result ≡ dark_answer action }
     ensures size { (response : List ℕ) → response_length result response ≡ 0 }
     ensures same { moment_of (driver_of store.new) ≡ moment_of (driver_of store.old) }
-    ensures goes_on { GoesOn (driver_of store.old) (driver_of store.new) }
-    ensures given { WereGiven (arms_of action) (driver_of store.old).device.bench.arms (driver_of store.new).device.bench.arms }
-    ensures armed { (driver_of store.new).device.bench.armed ≤ (driver_of store.old).device.bench.armed + arm_count action }
+    ensures gives { GivesArms (arms_of action) (arm_count action) (driver_of store.old) (driver_of store.new) }
 {
     match action {
         Action::Arm(arm) => {
@@ -53,15 +51,9 @@ fn take_dark_part<D: Blocks + Drop>(store: &mut Store<D>, part: &Part, own: &mut
     requires arms { (driver_of store.old).device.bench.armed + arms_in (part_of part.now) ≤ 64 }
     requires room { vec_len own.old.answers + length (own_steps (part_of part.now ∷ [])) ≤ vec_capacity own.old.answers }
     requires bytes { vec_len own.old.responses ≤ byte_room own.old.responses }
-    ensures answers { told_in own.new ≡ told_in own.old ++ map dark_answer (own_actions (part_of part.now ∷ [])) }
-    ensures len { vec_len own.new.answers ≡ vec_len own.old.answers + length (own_steps (part_of part.now ∷ [])) }
-    ensures room { vec_capacity own.new.answers ≡ vec_capacity own.old.answers }
-    ensures responses { vec_len own.new.responses ≡ vec_len own.old.responses }
-    ensures bytes { byte_room own.old.responses ≤ byte_room own.new.responses }
+    ensures answers { AddsDarkAnswers (part_of part.now ∷ []) own.old own.new }
     ensures same { moment_of (driver_of store.new) ≡ moment_of (driver_of store.old) }
-    ensures goes_on { GoesOn (driver_of store.old) (driver_of store.new) }
-    ensures given { WereGiven (all_arms (own_actions (part_of part.now ∷ []))) (driver_of store.old).device.bench.arms (driver_of store.new).device.bench.arms }
-    ensures armed { (driver_of store.new).device.bench.armed ≤ (driver_of store.old).device.bench.armed + arms_in (part_of part.now) }
+    ensures gives { GivesArms (all_arms (own_actions (part_of part.now ∷ []))) (arms_in (part_of part.now)) (driver_of store.old) (driver_of store.new) }
 {
     match part {
         Part::One(step) => {
@@ -80,9 +72,7 @@ fn take_dark_steps<D: Blocks + Drop>(store: &mut Store<D>, parts: &[Part], own: 
     requires no_answers { told_in own.old ≡ [] }
     ensures answers { told_in own.new ≡ map dark_answer (own_actions (parts_of parts.now)) }
     ensures same { moment_of (driver_of store.new) ≡ moment_of (driver_of store.old) }
-    ensures goes_on { GoesOn (driver_of store.old) (driver_of store.new) }
-    ensures given { WereGiven (all_arms (own_actions (parts_of parts.now))) (driver_of store.old).device.bench.arms (driver_of store.new).device.bench.arms }
-    ensures armed { (driver_of store.new).device.bench.armed ≤ (driver_of store.old).device.bench.armed + sum_by arms_in (parts_of parts.now) }
+    ensures gives { GivesArms (all_arms (own_actions (parts_of parts.now))) (sum_by arms_in (parts_of parts.now)) (driver_of store.old) (driver_of store.new) }
 {
     for part in parts {
         take_dark_part(store, part, own);
@@ -136,9 +126,7 @@ pub(crate) fn dark_life<D: Blocks + Drop>(
       lanes = map dark_answers (lanes_in (parts_of parts.now));
     } }
     ensures same { moment_of (driver_of store.new) ≡ moment_of (driver_of store.old) }
-    ensures goes_on { GoesOn (driver_of store.old) (driver_of store.new) }
-    ensures given { WereGiven (all_arms (own_actions (parts_of parts.now))) (driver_of store.old).device.bench.arms (driver_of store.new).device.bench.arms }
-    ensures armed { (driver_of store.new).device.bench.armed ≤ (driver_of store.old).device.bench.armed + sum_by arms_in (parts_of parts.now) }
+    ensures gives { GivesArms (all_arms (own_actions (parts_of parts.now))) (sum_by arms_in (parts_of parts.now)) (driver_of store.old) (driver_of store.new) }
 {
     let LifeRoom {
         mut own,

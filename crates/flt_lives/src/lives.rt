@@ -1,18 +1,13 @@
 //! Lives, each from its power-up on, one after the other.
-ghost use Rattle.std.specs.Prelude.{◌≡◌, ◌+◌, ◌≤◌, ◌<◌, ◌^◌, [], List, All, IfOk, OnOk, length, sum_by};
+ghost use Rattle.std.specs.Prelude.{◌≡◌, ◌<◌, [], List, All, IfOk, length};
 ghost use Rattle.flt_step.specs.declared.step.Step.{Step};
 ghost use Rattle.flt_step.specs.Part.{PartOf, parts_of};
 ghost use Rattle.flt_store.specs.Store.{driver_of};
 ghost use Rattle.flt_store.specs.Cause.{HasRoom};
 ghost use Rattle.flt_life_model.specs.declared.life.Boot.TheVariants as boots;
-ghost use Rattle.flt_life_model.specs.Going.{AddsLife, WereGiven};
-ghost use Rattle.flt_life_model.specs.Lives.{AreEnded, AreGiven, ArePlayed, IsLinked, StaysSound, arms_by, arms_given, is_refused, lists, lives_seen, view_of};
-ghost use Rattle.flt_life_model.specs.Moment.{Medium, moment_of};
-ghost use Rattle.flt_life_model.specs.Parts.{IsPossiblePart, arms_in, steps_in, widths};
-ghost use Rattle.flt_life_model.specs.Played.{IsPlayed};
-ghost use Rattle.flt_lives.specs.Devices.{BeginsLives, CanLiveOn};
-ghost use Rattle.flt_lives.specs.Living.{IsLived};
-ghost use Rattle.flt_lives.specs.Linked.{KeepsOn};
+ghost use Rattle.flt_life_model.specs.Lives.{is_refused, view_of};
+ghost use Rattle.flt_lives.specs.Devices.{CanLiveOn};
+ghost use Rattle.flt_lives.specs.Lives.{AreLivedThrough, FitInLife, IsLivedThrough, LeavesSound};
 
 use crate::buffers::Buffers;
 use crate::dark::dark_life;
@@ -57,21 +52,10 @@ pub fn run_life<D: Blocks + Drop, E: Engine<D> + Drop>(
     requires can { E.can_make (parts_of parts.now) }
     requires room { HasRoom config.now (driver_of store.old).room }
     requires boots { 0 < (driver_of store.old).device.bench.boots_left }
-    requires few { sum_by steps_in (parts_of parts.now) ≤ 65536 }
-    requires numbers { widths (parts_of parts.now) + 1 < 2 ^ 32 }
-    requires indices { length parts.now < 2 ^ 32 }
-    requires possible { All (IsPossiblePart config.now) (parts_of parts.now) }
-    requires arms { (driver_of store.old).device.bench.armed + sum_by arms_in (parts_of parts.now) ≤ 64 }
+    requires fit { FitInLife config.now (driver_of store.old).device parts.now }
     ensures same { IfOk result (λ lived. E.machine_config lived.engine ≡ config.now) }
-    ensures lived { IfOk result (λ lived. IsLived config.now (driver_of store.old) (driver_of store.new) (view_of (parts_of parts.now) lived.life)) }
-    ensures played { IfOk result (λ lived. IsPlayed config.now (view_of (parts_of parts.now) lived.life)) }
-    ensures given { IfOk result (λ lived.
-        WereGiven (arms_by (parts_of parts.now) lived.life.boot) (driver_of store.old).device.bench.arms (driver_of store.new).device.bench.arms) }
-    ensures sound { StaysSound config.now (moment_of (driver_of store.old)) (moment_of (driver_of store.new)) }
-    ensures adds { OnOk result (AddsLife (driver_of store.old) (driver_of store.new)) }
-    ensures begun { BeginsLives 1 (driver_of store.old).device (driver_of store.new).device }
-    ensures armed { OnOk result ((driver_of store.new).device.bench.armed ≤ (driver_of store.old).device.bench.armed + sum_by arms_in (parts_of parts.now)) }
-    ensures room { (driver_of store.new).room ≡ (driver_of store.old).room }
+    ensures lived { IfOk result (λ lived. IsLivedThrough config.now (driver_of store.old) (driver_of store.new) (view_of (parts_of parts.now) lived.life)) }
+    ensures left { LeavesSound config.now 1 (driver_of store.old) (driver_of store.new) }
 {
     let room = LifeRoom::for_parts(alloc, parts)?;
     store.power_up();
@@ -110,16 +94,8 @@ pub fn run_lives<D: Blocks + Drop, E: Engine<D> + Drop>(
     requires can { All (λ life. E.can_make (parts_of life.items)) lives.now }
     requires room { HasRoom config.now (driver_of store.old).room }
     requires ready { CanLiveOn config.now (driver_of store.old).device lives.now }
-    ensures linked { (medium : Medium) → KeepsOn D.Blocks config.now medium → IfOk result (λ lived.
-        IsLinked config.now medium (driver_of store.old).device (driver_of store.new).device (lives_seen (lists lives.now) lived.items)) }
-    ensures played { IfOk result (λ lived. ArePlayed config.now (lives_seen (lists lives.now) lived.items)) }
-    ensures ended { IfOk result (λ lived. AreEnded (length lives.now) (lives_seen (lists lives.now) lived.items)) }
-    ensures given { IfOk result (λ lived. AreGiven
-        (arms_given (length (driver_of store.old).device.bench.boots) (lives_seen (lists lives.now) lived.items))
-        (driver_of store.old).device.bench.arms (driver_of store.new).device.bench.arms) }
-    ensures begun { BeginsLives (length lives.now) (driver_of store.old).device (driver_of store.new).device }
-    ensures sound { StaysSound config.now (moment_of (driver_of store.old)) (moment_of (driver_of store.new)) }
-    ensures room { (driver_of store.new).room ≡ (driver_of store.old).room }
+    ensures lived { IfOk result (λ lived. AreLivedThrough D.Blocks config.now (driver_of store.old) (driver_of store.new) lives.now lived.items) }
+    ensures left { LeavesSound config.now (length lives.now) (driver_of store.old) (driver_of store.new) }
 {
     let mut engine = engine;
     let mut buffers = Buffers::new(config);

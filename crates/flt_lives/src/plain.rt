@@ -1,25 +1,14 @@
 //! The steps of lane 0, on a machine without a lock.
-ghost use Rattle.std.specs.Prelude.{◌≡◌, ◌+◌, ◌≤◌, ◌<◌, ◌^◌, ◌∷◌, [], ℕ, All, IfOk, List, length, reverse, sum_by, vec_len};
-ghost use Rattle.std.specs.Vec.{vec_capacity};
-ghost use Rattle.flt_config.specs.Durable.{Fits};
-ghost use Rattle.flt_flash.specs.State.{HasRisenBy};
-ghost use Rattle.flt_store_model.specs.Holding.{Generation, SameApplications};
-ghost use Rattle.flt_dcm.specs.Whole.{config_of, state_of};
+ghost use Rattle.std.specs.Prelude.{◌≡◌, ◌+◌, ◌≤◌, ◌∷◌, [], All, List, sum_by};
+ghost use Rattle.flt_store_model.specs.Holding.{SameApplications};
+ghost use Rattle.flt_dcm.specs.Whole.{config_of};
 ghost use Rattle.flt_step.specs.Part.{parts_of};
-ghost use Rattle.flt_store.specs.Store.{driver_of, numbered, IsAlive, IsRunning};
-ghost use Rattle.flt_life_model.specs.Actions.{action_of, IsPossible, arm_count, arms_of, all_arms, call_count, response_size};
+ghost use Rattle.flt_store.specs.Store.{driver_of};
+ghost use Rattle.flt_life_model.specs.Actions.{action_of, IsPossible, arm_count, arms_of, all_arms};
 ghost use Rattle.flt_life_model.specs.declared.action.Action.{Action};
-ghost use Rattle.flt_life_model.specs.declared.life.Boot.TheVariants as boots;
-ghost use Rattle.flt_life_model.specs.Causes.{AreCaused};
-ghost use Rattle.flt_life_model.specs.Chain.{start_from, Leaves};
-ghost use Rattle.flt_life_model.specs.Lives.{view_of};
-ghost use Rattle.flt_life_model.specs.Moment.{Moment, moment_of};
-ghost use Rattle.flt_life_model.specs.Played.{IsLife};
-ghost use Rattle.flt_life_model.specs.Room.{told_in};
-ghost use Rattle.flt_lives.specs.Alone.{AreAlone, IsPlain, actions_in};
-ghost use Rattle.flt_life_model.specs.Going.{GoesOn, WereGiven};
-ghost use Rattle.flt_life_model.specs.SoFar.{IsCaused};
-ghost use Rattle.flt_lives.specs.Living.{IsUnderWay, IsLiving, TakesStep, deeds_told, HasRoomFor};
+ghost use Rattle.flt_lives.specs.Alone.{AreAlone, actions_in};
+ghost use Rattle.flt_lives.specs.Living.{HasRoomFor};
+ghost use Rattle.flt_lives.specs.Steps.{AreOnTheirWay, GivesArms, HasTakenSteps, IsNewAccount, IsPlainStep, TakesStep};
 
 use crate::account::Account;
 use crate::buffers::Buffers;
@@ -42,22 +31,14 @@ fn take_step<D: Blocks + Drop>(
     step: &Step,
     account: &mut Account,
 )
-    requires same { config_of unit.old ≡ config.now }
-    requires under_way { IsUnderWay config.now (state_of unit.old) }
-    requires alive { IsAlive config.now store.old }
-    requires possible { IsPossible config.now (action_of step.now) }
-    requires plain { IsPlain (action_of step.now) }
-    requires arms { (driver_of store.old).device.bench.armed + arm_count (action_of step.now) ≤ 64 }
+    requires ready { AreOnTheirWay config.now unit.old store.old }
+    requires step { IsPlainStep config.now (action_of step.now) (driver_of store.old).device }
     requires room { HasRoomFor account.old (action_of step.now ∷ []) }
-    ensures config { config_of unit.new ≡ config_of unit.old }
-    ensures under_way { IsUnderWay config.now (state_of unit.new) }
-    ensures alive { IsAlive config.now store.new }
-    ensures takes { TakesStep config.now (action_of step.now) (state_of unit.old) (state_of unit.new) store.old store.new account.old account.new }
+    ensures ready { AreOnTheirWay config.now unit.new store.new }
+    ensures takes { TakesStep config.now (action_of step.now) unit.old unit.new store.old store.new account.old account.new }
     ensures room { (rest : List Action) → HasRoomFor account.old (action_of step.now ∷ rest) → HasRoomFor account.new rest }
     ensures applications { SameApplications (driver_of store.old).value (driver_of store.new).value }
-    ensures goes_on { GoesOn (driver_of store.old) (driver_of store.new) }
-    ensures given { WereGiven (arms_of (action_of step.now)) (driver_of store.old).device.bench.arms (driver_of store.new).device.bench.arms }
-    ensures armed { (driver_of store.new).device.bench.armed ≤ (driver_of store.old).device.bench.armed + arm_count (action_of step.now) }
+    ensures gives { GivesArms (arms_of (action_of step.now)) (arm_count (action_of step.now)) (driver_of store.old) (driver_of store.new) }
 {
     let answer = make_step(
         unit,
@@ -79,28 +60,16 @@ fn take_steps<D: Blocks + Drop>(
     parts: &[Part],
     account: &mut Account,
 )
-    requires same { config_of unit.old ≡ config.now }
+    requires ready { AreOnTheirWay config.now unit.old store.old }
     requires alone { AreAlone (parts_of parts.now) }
-    requires under_way { IsUnderWay config.now (state_of unit.old) }
-    requires alive { IsAlive config.now store.old }
     requires possible { All (IsPossible config.now) (actions_in parts.now) }
     requires arms { (driver_of store.old).device.bench.armed + sum_by arm_count (actions_in parts.now) ≤ 64 }
     requires room { HasRoomFor account.old (actions_in parts.now) }
-    requires no_calls { account.old.journal.items ≡ [] }
-    requires no_answers { told_in account.old.replies ≡ [] }
-    ensures config { config_of unit.new ≡ config_of unit.old }
-    ensures alive { IsAlive config.now store.new }
-    ensures living { (first : Generation) → IsLiving config.now first [] [] (state_of unit.old) store.old
-        → IsLiving config.now first (reverse account.new.journal.items) (deeds_told (parts_of parts.now) (told_in account.new.replies))
-        (state_of unit.new) store.new }
-    ensures played { (first : Generation) → IsLiving config.now first [] [] (state_of unit.old) store.old
-        → IsLife (start_from config.now first.state) (parts_of parts.now) (told_in account.new.replies) [] account.new.journal.items [] }
-    ensures caused { (begun : ℕ) → IsCaused config.now begun [] store.old
-        → IsCaused config.now begun (deeds_told (parts_of parts.now) (told_in account.new.replies)) store.new }
+    requires fresh { IsNewAccount account.old }
+    ensures ready { AreOnTheirWay config.now unit.new store.new }
+    ensures taken { HasTakenSteps config.now (parts_of parts.now) unit.old unit.new store.old store.new account.new }
     ensures applications { SameApplications (driver_of store.old).value (driver_of store.new).value }
-    ensures goes_on { GoesOn (driver_of store.old) (driver_of store.new) }
-    ensures given { WereGiven (all_arms (actions_in parts.now)) (driver_of store.old).device.bench.arms (driver_of store.new).device.bench.arms }
-    ensures armed { (driver_of store.new).device.bench.armed ≤ (driver_of store.old).device.bench.armed + sum_by arm_count (actions_in parts.now) }
+    ensures gives { GivesArms (all_arms (actions_in parts.now)) (sum_by arm_count (actions_in parts.now)) (driver_of store.old) (driver_of store.new) }
 {
     for part in parts {
         let Part::One(step) = part else {

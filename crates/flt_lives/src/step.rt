@@ -1,25 +1,23 @@
 //! The steps of a life.
-ghost use Rattle.std.specs.Prelude.{◌≡◌, ◌+◌, ◌≤◌, ◌<◌, ◌∷◌, ◌^◌, [], ℕ, List, length, reverse, vec_len};
+ghost use Rattle.std.specs.Prelude.{◌≡◌, ◌+◌, ◌≤◌, ◌<◌, ◌∷◌, [], length, reverse, vec_len};
 ghost use Rattle.std.specs.Vec.{vec_capacity};
 ghost use Rattle.flt_config.specs.Durable.{Fits};
 ghost use Rattle.flt_model.specs.Start.{Start, History};
 ghost use Rattle.flt_model.specs.Answer.{answer};
 ghost use Rattle.flt_model.specs.Durable.{saved_after};
 ghost use Rattle.flt_model.specs.declared.call.Op.TheVariants as ops;
-ghost use Rattle.flt_store_model.specs.Holding.{Generation, SameApplications};
+ghost use Rattle.flt_store_model.specs.Holding.{SameApplications};
 ghost use Rattle.flt_dcm.specs.ReplyKind.{reply_with};
 ghost use Rattle.flt_dcm.specs.Unit.{Stands, IsAdmitted, IsTesterCall};
 ghost use Rattle.flt_dcm.specs.Whole.{config_of, state_of};
-ghost use Rattle.flt_store.specs.Store.{IsAlive, driver_of};
-ghost use Rattle.flt_life_model.specs.Actions.{IsPossible, IsStepCall, arm_count, arms_of, call_count, response_size};
-ghost use Rattle.flt_life_model.specs.Answers.{Told, told_with, response_length, reply_size};
-ghost use Rattle.flt_lives.specs.Carried.{IsCarriedOut, SaveIsCarriedOut};
-ghost use Rattle.flt_life_model.specs.Chain.{start_from};
-ghost use Rattle.flt_life_model.specs.Journal.{entry, calls_of};
-ghost use Rattle.flt_life_model.specs.Going.{GoesOn, WereGiven};
-ghost use Rattle.flt_lives.specs.Alone.{IsPlain};
-ghost use Rattle.flt_life_model.specs.SoFar.{IsCaused};
-ghost use Rattle.flt_lives.specs.Living.{IsUnderWay, IsLiving, with_answer};
+ghost use Rattle.flt_store.specs.Store.{driver_of};
+ghost use Rattle.flt_life_model.specs.declared.action.Action.TheVariants as actions;
+ghost use Rattle.flt_life_model.specs.Actions.{arm_count, arms_of, call_count, response_size};
+ghost use Rattle.flt_life_model.specs.Answers.{told_with, response_length, reply_size};
+ghost use Rattle.flt_lives.specs.Carried.{SaveIsCarriedOut};
+ghost use Rattle.flt_life_model.specs.Journal.{entry};
+ghost use Rattle.flt_lives.specs.Living.{IsUnderWay};
+ghost use Rattle.flt_lives.specs.Steps.{AddsCalls, AnswersStep, AreOnTheirWay, GivesArms, HasCallsLeft, IsPlainStep};
 
 use crate::buffers::Buffers;
 use flt_config::ValidConfig;
@@ -73,25 +71,15 @@ fn save<D: Blocks + Drop>(
     buffers: &mut Buffers,
     journal: &mut Vec<Entry<Op>>,
 ) -> StepAnswer<ReplyKind>
-    requires same { config_of unit.old ≡ config.now }
-    requires under_way { IsUnderWay config.now (state_of unit.old) }
-    requires alive { IsAlive config.now store.old }
+    requires ready { AreOnTheirWay config.now unit.old store.old }
     requires calls { vec_len journal.old + 2 ≤ vec_capacity journal.old }
-    ensures config { config_of unit.new ≡ config_of unit.old }
-    ensures under_way { IsUnderWay config.now (state_of unit.new) }
-    ensures alive { IsAlive config.now store.new }
-    ensures living { (first : Generation) (told : List Told) → IsLiving config.now first (reverse journal.old.items) told (state_of unit.old) store.old
-        → IsLiving config.now first (reverse journal.new.items) (told_with buffers.new.response.items result ∷ told) (state_of unit.new) store.new }
-    ensures caused { (begun : ℕ) (told : List Told) → IsCaused config.now begun told store.old
-        → IsCaused config.now begun (told_with buffers.new.response.items result ∷ told) store.new }
+    ensures ready { AreOnTheirWay config.now unit.new store.new }
+    ensures made { AnswersStep config.now actions.Save unit.old unit.new store.old store.new journal.old journal.new (told_with buffers.new.response.items result) }
     ensures carried { SaveIsCarriedOut (reverse journal.old.items) (reverse journal.new.items) (told_with buffers.new.response.items result) }
     ensures size { response_length result buffers.new.response.items ≡ 0 }
-    ensures calls { vec_len journal.new ≤ vec_len journal.old + 2 }
-    ensures room { vec_capacity journal.new ≡ vec_capacity journal.old }
+    ensures journal { AddsCalls 2 journal.old journal.new }
     ensures applications { SameApplications (driver_of store.old).value (driver_of store.new).value }
-    ensures goes_on { GoesOn (driver_of store.old) (driver_of store.new) }
-    ensures given { WereGiven [] (driver_of store.old).device.bench.arms (driver_of store.new).device.bench.arms }
-    ensures armed { (driver_of store.new).device.bench.armed ≤ (driver_of store.old).device.bench.armed }
+    ensures gives { GivesArms [] 0 (driver_of store.old) (driver_of store.new) }
 {
     take_snapshot(unit, buffers);
     write(Op::Snapshot, journal);
@@ -116,32 +104,15 @@ pub(crate) fn make_step<D: Blocks + Drop>(
     action: Action,
     journal: &mut Vec<Entry<Op>>,
 ) -> StepAnswer<ReplyKind>
-    requires same { config_of unit.old ≡ config.now }
-    requires under_way { IsUnderWay config.now (state_of unit.old) }
-    requires alive { IsAlive config.now store.old }
-    requires possible { IsPossible config.now action }
-    requires plain { IsPlain action }
-    requires arms { (driver_of store.old).device.bench.armed + arm_count action ≤ 64 }
-    requires calls { vec_len journal.old + call_count action ≤ vec_capacity journal.old }
-    requires few { vec_len journal.old < 2 ^ 32 }
-    ensures config { config_of unit.new ≡ config_of unit.old }
-    ensures under_way { IsUnderWay config.now (state_of unit.new) }
-    ensures alive { IsAlive config.now store.new }
-    ensures living { (first : Generation) (told : List Told) → IsLiving config.now first (reverse journal.old.items) told (state_of unit.old) store.old
-        → IsLiving config.now first (reverse journal.new.items) (with_answer action (told_with buffers.new.response.items result) told)
-        (state_of unit.new) store.new }
-    ensures caused { (begun : ℕ) (told : List Told) → IsCaused config.now begun told store.old
-        → IsCaused config.now begun (with_answer action (told_with buffers.new.response.items result) told) store.new }
-    ensures carried { (first : Generation) → Stands (start_from config.now first.state) (calls_of (reverse journal.old.items)) (state_of unit.old)
-        → IsCarriedOut (start_from config.now first.state) (reverse journal.old.items) action (reverse journal.new.items)
-        (told_with buffers.new.response.items result) }
+    requires ready { AreOnTheirWay config.now unit.old store.old }
+    requires step { IsPlainStep config.now action (driver_of store.old).device }
+    requires calls { HasCallsLeft (call_count action) journal.old }
+    ensures ready { AreOnTheirWay config.now unit.new store.new }
+    ensures made { AnswersStep config.now action unit.old unit.new store.old store.new journal.old journal.new (told_with buffers.new.response.items result) }
     ensures size { length buffers.new.response.items ≤ RESPONSE → response_length result buffers.new.response.items ≤ response_size action }
-    ensures calls { vec_len journal.new ≤ vec_len journal.old + call_count action }
-    ensures room { vec_capacity journal.new ≡ vec_capacity journal.old }
+    ensures journal { AddsCalls (call_count action) journal.old journal.new }
     ensures applications { SameApplications (driver_of store.old).value (driver_of store.new).value }
-    ensures goes_on { GoesOn (driver_of store.old) (driver_of store.new) }
-    ensures given { WereGiven (arms_of action) (driver_of store.old).device.bench.arms (driver_of store.new).device.bench.arms }
-    ensures armed { (driver_of store.new).device.bench.armed ≤ (driver_of store.old).device.bench.armed + arm_count action }
+    ensures gives { GivesArms (arms_of action) (arm_count action) (driver_of store.old) (driver_of store.new) }
 {
     match action {
         Action::Call(op) => {

@@ -1,6 +1,6 @@
 use Rattle.std.proofs.Common.{◌∙◌, ◌++◌, ◌∷◌, [], map, take, length, ap, sym, subst, arith}
 use Rattle.std.specs.Prelude.{sum_by}
-use Rattle.std.proofs.lemmas.List.{length-append, map-append}
+use Rattle.std.proofs.lemmas.List.{length-append, map-append, take_all}
 use Rattle.std.proofs.lemmas.List.Sums.{sum_by_push}
 use Rattle.flt_step.specs.Part.{part_of, parts_of}
 use Rattle.flt_store.specs.Store.{driver_of}
@@ -52,16 +52,22 @@ loop-part-preserved g c =
     let sum = ap (sum_by arms_in) (parts_more_by parts index c.part-item.result c.loop-part-test.true c.part-item.is) ∙ sum_by_push arms_in front (part_of c.part-item.result) in
     let first_arms = (driver_of c.args.store.now).device.bench.arms in
     let last_arms = (driver_of c.take_dark_part.new.store).device.bench.arms in
-    let len = made.len in let inv_len = inv.len in let responses = made.responses in let bytes = made.bytes in let inv_bytes = inv.bytes in let armed = made.armed in let inv_armed = inv.armed in
+    let len = made.answers.len in let inv_len = inv.len in let bytes = made.answers.bytes in let inv_bytes = inv.bytes in let armed = made.gives.armed in let inv_armed = inv.armed in
     record {
-      answers = made.answers ∙ ap (λ l. l ++ map dark_answer (own_actions one)) inv.answers ∙ sym (ap (map dark_answer) actions ∙ map-append dark_answer (own_actions front) (own_actions one));
+      answers = made.answers.answers ∙ ap (λ l. l ++ map dark_answer (own_actions one)) inv.answers ∙ sym (ap (map dark_answer) actions ∙ map-append dark_answer (own_actions front) (own_actions one));
       len = omega (arith, steps, len, inv_len);
-      room = made.room ∙ inv.room;
-      responses = responses ∙ inv.responses;
+      room = made.answers.room ∙ inv.room;
+      responses = made.answers.responses ∙ inv.responses;
       bytes = omega (arith, bytes, inv_bytes);
       same = made.same ∙ inv.same;
-      goes_on = goes_further _ _ _ inv.goes_on made.goes_on;
+      goes_on = goes_further _ _ _ inv.goes_on made.gives.goes_on;
       given = subst (λ arms. WereGiven arms first_arms last_arms) (sym (ap all_arms actions ∙ all_arms-append (own_actions front) (own_actions one)))
-          (given_further (all_arms (own_actions front)) (all_arms (own_actions one)) first_arms (driver_of c.loop-part.store).device.bench.arms last_arms inv.given made.given);
+          (given_further (all_arms (own_actions front)) (all_arms (own_actions one)) first_arms (driver_of c.loop-part.store).device.bench.arms last_arms inv.given made.gives.given);
       armed = omega (arith, sum, armed, inv_armed);
     }
+
+pub returns-clause-gives : goal.returns-clause-gives
+returns-clause-gives g c =
+    let inv = c.loop-part.invariant in
+    let all = take_all c.loop-part.part-index c.args.parts.now c.loop-part-test.false in
+    record { goes_on = inv.goes_on; given = rw all at inv.given; armed = rw all at inv.armed }

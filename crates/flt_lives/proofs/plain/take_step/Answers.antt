@@ -1,12 +1,10 @@
-use Rattle.std.proofs.Common.{◌≡◌, ◌≤◌, reverse, ap, sym, subst, arith}
-use Rattle.flt_dcm.specs.Whole.{state_of}
+use Rattle.std.proofs.Common.{◌≡◌, ◌≤◌, [], ap, sym, subst, arith}
+use Rattle.std.proofs.lemmas.List.Sums.{sum_by-cons}
+use Rattle.flt_store.specs.Store.{driver_of}
 use Rattle.flt_life_model.specs.declared.action.Action.{Action}
-use Rattle.flt_life_model.specs.Actions.{action_of, response_size, call_count}
+use Rattle.flt_life_model.specs.Actions.{action_of, arm_count, arms_of, call_count, response_size}
 use Rattle.flt_life_model.specs.Answers.{Told, told_with, response_length}
-use Rattle.flt_lives.specs.Carried.{IsCarriedOut}
-use Rattle.flt_life_model.specs.Chain.{start_from}
-use Rattle.flt_life_model.specs.SoFar.{IsCaused}
-use Rattle.flt_lives.specs.Living.{IsLiving, with_answer}
+use Rattle.flt_lives.specs.Steps.{AnswersStep, GivesArms, IsPlainStep}
 use Rattle.flt_lives.proofs.Rooms.{response_fits, room_after}
 use Rattle.flt_lives.proofs.plain.take_step.Goals as goal
 
@@ -19,29 +17,33 @@ keep-requires-clause-responses g c =
     let most = ap response_size c.action_of.ensures in
     omega (arith, fits, size, most)
 
+pub make_step-answer-requires-clause-step : goal.make_step-answer-requires-clause-step
+make_step-answer-requires-clause-step g c = subst (λ (action : Action). IsPlainStep c.args.config.now action (driver_of c.args.store.now).device) (sym c.action_of.ensures) c.requires.step
+
+pub make_step-answer-requires-clause-calls : goal.make_step-answer-requires-clause-calls
+make_step-answer-requires-clause-calls g c =
+    let sum = sum_by-cons call_count (action_of c.args.step.now) [] in
+    let count = ap call_count c.action_of.ensures in
+    let few = c.requires.room.few in
+    let calls = c.requires.room.calls in
+    record { calls = omega (arith, sum, count, calls); few = omega (arith, few) }
+
 pub returns-clause-takes : goal.returns-clause-takes
 returns-clause-takes g c =
-    let config = c.args.config.now in
     let made = c.make_step-answer in
-    let journal = reverse c.args.account.now.journal.items in
-    let later = reverse made.new.journal.items in
+    let account = c.args.account.now in
     let last = told_with c.as_slice.result.now made.result in
     let same : told_with made.new.buffers.response.items made.result ≡ last = ap (λ bytes. told_with bytes made.result) (sym c.as_slice.ensures.value) in
-    let by_step = c.action_of.ensures in
     record {
       last = last;
       answers = c.keep.ensures.told;
-      carried = λ first stands.
-          (let start = start_from config first.state in
-          subst (λ (action : Action). IsCarriedOut start journal action later last) by_step
-          (subst (λ (answer : Told). IsCarriedOut start journal c.action_of.result later answer) same (made.ensures.carried first stands)));
-      living = λ first told living.
-          subst (λ (action : Action). IsLiving config first later (with_answer action last told) (state_of made.new.unit) made.new.store) by_step
-          (subst (λ (answer : Told). IsLiving config first later (with_answer c.action_of.result answer told) (state_of made.new.unit) made.new.store) same (made.ensures.living first told living));
-      caused = λ begun told caused.
-          subst (λ (action : Action). IsCaused config begun (with_answer action last told) made.new.store) by_step
-          (subst (λ (answer : Told). IsCaused config begun (with_answer c.action_of.result answer told) made.new.store) same (made.ensures.caused begun told caused));
+      step = subst (λ (action : Action). AnswersStep c.args.config.now action c.args.unit.now made.new.unit c.args.store.now made.new.store account.journal made.new.journal last) c.action_of.ensures
+          (subst (λ (answer : Told). AnswersStep c.args.config.now c.action_of.result c.args.unit.now made.new.unit c.args.store.now made.new.store account.journal made.new.journal answer) same made.ensures.made);
     }
+
+pub returns-clause-gives : goal.returns-clause-gives
+returns-clause-gives g c =
+    subst (λ (action : Action). GivesArms (arms_of action) (arm_count action) (driver_of c.args.store.now) (driver_of c.make_step-answer.new.store)) c.action_of.ensures c.make_step-answer.ensures.gives
 
 pub returns-clause-room : goal.returns-clause-room
 returns-clause-room g c = λ rest room.
@@ -49,8 +51,8 @@ returns-clause-room g c = λ rest room.
     let few = c.as_slice.ensures.fits in
     let size = subst (λ bytes. response_length c.make_step-answer.result bytes ≤ response_size c.action_of.result) (sym response) (c.make_step-answer.ensures.size (rw response at few)) in
     let most = ap response_size c.action_of.ensures in
-    let calls = c.make_step-answer.ensures.calls in
+    let calls = c.make_step-answer.ensures.journal.calls in
     let count = ap call_count c.action_of.ensures in
     let responses = c.keep.ensures.responses in
-    room_after c.args.account.now _ (action_of c.args.step.now) rest room (omega (arith, calls, count)) c.make_step-answer.ensures.room c.keep.ensures.answers c.keep.ensures.room
+    room_after c.args.account.now _ (action_of c.args.step.now) rest room (omega (arith, calls, count)) c.make_step-answer.ensures.journal.room c.keep.ensures.answers c.keep.ensures.room
     (omega (arith, responses, size, most)) c.keep.ensures.bytes

@@ -26,31 +26,25 @@ use Rattle.flt_life_model.proofs.Giving.{given_further, arms_more, none_given}
 use Rattle.flt_lives.proofs.Rooms.{left_more, made_more, parts_are, one_of, one_alone}
 use Rattle.flt_lives.proofs.plain.take_steps.Goals as goal
 
-pub take_step-requires-clause-possible : goal.take_step-requires-clause-possible
-take_step-requires-clause-possible g c =
-    let left = left_more c.args.parts.now c.loop-part.part-index c.part-item.result c.loop-part-test.true c.part-item.is c.in-One.step c.in-One.is in
-    All-head (IsPossible c.args.config.now) (action_of c.in-One.step) (actions_in (drop (c.loop-part.part-index + 1) c.args.parts.now))
-    (subst (All (IsPossible c.args.config.now)) left c.loop-part.invariant.possible)
-
-pub take_step-requires-clause-arms : goal.take_step-requires-clause-arms
-take_step-requires-clause-arms g c =
+pub take_step-requires-clause-step : goal.take_step-requires-clause-step
+take_step-requires-clause-step g c =
     let rest = actions_in (drop (c.loop-part.part-index + 1) c.args.parts.now) in
     let left = left_more c.args.parts.now c.loop-part.part-index c.part-item.result c.loop-part-test.true c.part-item.is c.in-One.step c.in-One.is in
     let sum = ap (sum_by arm_count) left ∙ sum_by-cons arm_count (action_of c.in-One.step) rest in
     let armed = c.loop-part.invariant.armed in
     let most = c.requires.arms in
-    omega (arith, sum, armed, most)
+    record {
+      possible = All-head (IsPossible c.args.config.now) (action_of c.in-One.step) rest (subst (All (IsPossible c.args.config.now)) left c.loop-part.invariant.possible);
+      plain = subst (λ (part : Part). IsAlone (part_of part)) c.in-One.is
+          (one_alone c.args.parts.now c.loop-part.part-index c.part-item.result c.loop-part-test.true c.part-item.is c.requires.alone);
+      arms = omega (arith, sum, armed, most);
+    }
 
 pub take_step-requires-clause-room : goal.take_step-requires-clause-room
 take_step-requires-clause-room g c =
     let rest = actions_in (drop (c.loop-part.part-index + 1) c.args.parts.now) in
     let left = left_more c.args.parts.now c.loop-part.part-index c.part-item.result c.loop-part-test.true c.part-item.is c.in-One.step c.in-One.is in
     one_of c.loop-part.account (action_of c.in-One.step) rest (subst (HasRoomFor c.loop-part.account) left c.loop-part.invariant.room)
-
-pub take_step-requires-clause-plain : goal.take_step-requires-clause-plain
-take_step-requires-clause-plain g c =
-    subst (λ (part : Part). IsAlone (part_of part)) c.in-One.is
-    (one_alone c.args.parts.now c.loop-part.part-index c.part-item.result c.loop-part-test.true c.part-item.is c.requires.alone)
 
 pub loop-part-preserved : goal.loop-part-preserved
 loop-part-preserved g c =
@@ -73,70 +67,71 @@ loop-part-preserved g c =
     let left = left_more parts index c.part-item.result c.loop-part-test.true c.part-item.is c.in-One.step c.in-One.is in
     let more = made_more parts index c.part-item.result c.loop-part-test.true c.part-item.is c.in-One.step c.in-One.is in
     let sum = ap (sum_by arm_count) left ∙ sum_by-cons arm_count step rest in
-    let armed = c.take_step.ensures.armed in
+    let armed = c.take_step.ensures.gives.armed in
     let was = c.loop-part.invariant.armed in
     let first_arms = (driver_of c.args.store.now).device.bench.arms in
     let last_arms = (driver_of c.take_step.new.store).device.bench.arms in
+    let inv = c.loop-part.invariant in
     record {
-      config = c.take_step.ensures.config ∙ c.loop-part.invariant.config;
-      under_way = c.take_step.ensures.under_way;
-      possible = All-tail (IsPossible c.args.config.now) step rest (subst (All (IsPossible c.args.config.now)) left c.loop-part.invariant.possible);
-      room = c.take_step.ensures.room rest (subst (HasRoomFor c.loop-part.account) left c.loop-part.invariant.room);
-      alive = c.take_step.ensures.alive;
+      ready = c.take_step.ensures.ready;
+      possible = All-tail (IsPossible c.args.config.now) step rest (subst (All (IsPossible c.args.config.now)) left inv.possible);
+      room = c.take_step.ensures.room rest (subst (HasRoomFor c.loop-part.account) left inv.room);
       many = omega (arith, answered, inv_many, count);
-      living = λ first living.
-          subst (λ (now : List Told). IsLiving config first (reverse c.take_step.new.account.journal.items) now (state_of c.take_step.new.unit) c.take_step.new.store) (sym deeds)
-          (takes.living first (deeds_told before told) (c.loop-part.invariant.living first living));
-      played = λ first living.
-          (let start = start_from config first.state in
-          subst (λ (l : List (PartOf Step)). IsLife start l (told_in c.take_step.new.account.replies) [] c.take_step.new.account.journal.items []) (sym parts_more)
-          (subst (λ (own : List Told). IsLife start (before ++ inl c.in-One.step ∷ []) own [] c.take_step.new.account.journal.items []) (sym takes.answers)
-          (life_more start before told [] c.loop-part.account.journal.items c.take_step.new.account.journal.items c.in-One.step last
-          (c.loop-part.invariant.played first living) (takes.carried first (c.loop-part.invariant.living first living).stands))));
-      caused = λ begun caused.
-          subst (λ (now : List Told). IsCaused config begun now c.take_step.new.store) (sym deeds) (takes.caused begun (deeds_told before told) (c.loop-part.invariant.caused begun caused));
-      applications = λ block below. c.take_step.ensures.applications block below ∙ c.loop-part.invariant.applications block below;
-      goes_on = goes_further _ _ _ c.loop-part.invariant.goes_on c.take_step.ensures.goes_on;
+      taken = record {
+        living = λ first living.
+            subst (λ (now : List Told). IsLiving config first (reverse c.take_step.new.account.journal.items) now (state_of c.take_step.new.unit) c.take_step.new.store) (sym deeds)
+            (takes.step.living first (deeds_told before told) (inv.taken.living first living));
+        played = λ first living.
+            (let start = start_from config first.state in
+            subst (λ (l : List (PartOf Step)). IsLife start l (told_in c.take_step.new.account.replies) [] c.take_step.new.account.journal.items []) (sym parts_more)
+            (subst (λ (own : List Told). IsLife start (before ++ inl c.in-One.step ∷ []) own [] c.take_step.new.account.journal.items []) (sym takes.answers)
+            (life_more start before told [] c.loop-part.account.journal.items c.take_step.new.account.journal.items c.in-One.step last
+            (inv.taken.played first living) (takes.step.carried first (inv.taken.living first living).stands))));
+        caused = λ begun caused.
+            subst (λ (now : List Told). IsCaused config begun now c.take_step.new.store) (sym deeds) (takes.step.caused begun (deeds_told before told) (inv.taken.caused begun caused));
+      };
+      applications = λ block below. c.take_step.ensures.applications block below ∙ inv.applications block below;
+      goes_on = goes_further _ _ _ inv.goes_on c.take_step.ensures.gives.goes_on;
       given = subst (λ arms. WereGiven arms first_arms last_arms) (sym (ap all_arms more ∙ arms_more made step))
-          (given_further (all_arms made) (arms_of step) first_arms (driver_of c.loop-part.store).device.bench.arms last_arms c.loop-part.invariant.given c.take_step.ensures.given);
+          (given_further (all_arms made) (arms_of step) first_arms (driver_of c.loop-part.store).device.bench.arms last_arms inv.given c.take_step.ensures.gives.given);
       armed = omega (arith, sum, armed, was);
     }
 
-pub returns-clause-living : goal.returns-clause-living
-returns-clause-living g c = λ first living.
-    rw (take_all c.loop-part.part-index c.args.parts.now c.loop-part-test.false) at (c.loop-part.invariant.living first living)
+pub returns-clause-taken : goal.returns-clause-taken
+returns-clause-taken g c =
+    rw (take_all c.loop-part.part-index c.args.parts.now c.loop-part-test.false) at c.loop-part.invariant.taken
 
-pub returns-clause-played : goal.returns-clause-played
-returns-clause-played g c = λ first living.
-    rw (take_all c.loop-part.part-index c.args.parts.now c.loop-part-test.false) at (c.loop-part.invariant.played first living)
-
-pub returns-clause-caused : goal.returns-clause-caused
-returns-clause-caused g c = λ begun caused.
-    rw (take_all c.loop-part.part-index c.args.parts.now c.loop-part-test.false) at (c.loop-part.invariant.caused begun caused)
-
-pub returns-clause-given : goal.returns-clause-given
-returns-clause-given g c =
-    rw (take_all c.loop-part.part-index c.args.parts.now c.loop-part-test.false) at c.loop-part.invariant.given
+pub returns-clause-gives : goal.returns-clause-gives
+returns-clause-gives g c =
+    let armed = c.loop-part.invariant.armed in
+    record {
+      goes_on = c.loop-part.invariant.goes_on;
+      given = rw (take_all c.loop-part.part-index c.args.parts.now c.loop-part-test.false) at c.loop-part.invariant.given;
+      armed = omega (arith, armed);
+    }
 
 pub loop-part-init : goal.loop-part-init
-loop-part-init g c = record {
-  config = refl;
-  under_way = c.requires.under_way;
-  possible = c.requires.possible;
-  room = c.requires.room;
-  alive = c.requires.alive;
-  many = ap length c.requires.no_answers;
-  living = λ first living.
-      subst (λ (journal : Journal). IsLiving c.args.config.now first journal [] (state_of c.args.unit.now) c.args.store.now) (sym (ap reverse c.requires.no_calls)) living;
-  played = λ first living.
-      subst (λ (told : List Told). IsLife (start_from c.args.config.now first.state) [] told [] c.args.account.now.journal.items []) (sym c.requires.no_answers)
-      (subst (λ (journal : Journal). IsLife (start_from c.args.config.now first.state) [] [] [] journal []) (sym c.requires.no_calls) (no_parts (start_from c.args.config.now first.state)));
-  caused = λ begun caused. caused;
-  applications = λ block below. refl;
-  goes_on = goes_nowhere (driver_of c.args.store.now);
-  given = none_given (driver_of c.args.store.now).device.bench.arms;
-  armed = omega arith;
-}
+loop-part-init g c =
+    let no_calls = c.requires.fresh.calls in
+    let no_answers = c.requires.fresh.answers in
+    record {
+      ready = c.requires.ready;
+      possible = c.requires.possible;
+      room = c.requires.room;
+      many = ap length no_answers;
+      taken = record {
+        living = λ first living.
+            subst (λ (journal : Journal). IsLiving c.args.config.now first journal [] (state_of c.args.unit.now) c.args.store.now) (sym (ap reverse no_calls)) living;
+        played = λ first living.
+            subst (λ (told : List Told). IsLife (start_from c.args.config.now first.state) [] told [] c.args.account.now.journal.items []) (sym no_answers)
+            (subst (λ (journal : Journal). IsLife (start_from c.args.config.now first.state) [] [] [] journal []) (sym no_calls) (no_parts (start_from c.args.config.now first.state)));
+        caused = λ begun caused. caused;
+      };
+      applications = λ block below. refl;
+      goes_on = goes_nowhere (driver_of c.args.store.now);
+      given = none_given (driver_of c.args.store.now).device.bench.arms;
+      armed = omega arith;
+    }
 
 pub unreachable-requires : goal.unreachable-requires
 unreachable-requires g c =

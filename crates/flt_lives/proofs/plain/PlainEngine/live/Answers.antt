@@ -1,4 +1,4 @@
-use Rattle.std.proofs.Common.{[], ◌∙◌, ap, subst, arith}
+use Rattle.std.proofs.Common.{[], ◌∙◌, ap, subst, arith, rules}
 use Rattle.std.proofs.lemmas.List.{length-map}
 use Rattle.flt_flash.specs.declared.blocks.Blocks.{Ghosts}
 use Rattle.flt_config.specs.declared.config.Config.{Config}
@@ -26,15 +26,23 @@ use Rattle.flt_lives.proofs.Rooms.{alone_calls, arms_are, calls_most, possible_a
 use Rattle.flt_lives.proofs.plain.PlainEngine.live.Goals as goal
 
 pub take_steps-requires-clause-possible : goal.take_steps-requires-clause-possible
-take_steps-requires-clause-possible g c = possible_alone c.args.config.now (parts_of c.args.parts.now) c.requires.possible
+take_steps-requires-clause-possible g c = possible_alone c.args.config.now (parts_of c.args.parts.now) c.requires.fit.possible
 
-pub take_steps-requires-clause-alive : goal.take_steps-requires-clause-alive
-take_steps-requires-clause-alive g c = record { held = _; spare = _; running = c.requires.running }
+pub take_steps-requires-clause-ready : goal.take_steps-requires-clause-ready
+take_steps-requires-clause-ready g c =
+    let config = c.args.config.now in
+    let state = c.args.buffers.now.state in
+    let stands = subst (λ (k : Config). Stands (start_from k state) [] (state_of c.boot.new.self)) c.requires.same c.boot.ensures.stands in
+    record {
+      same = c.boot.ensures.config ∙ c.requires.same;
+      under_way = search rules;
+      alive = record { held = _; spare = _; running = c.requires.started.running };
+    }
 
 pub take_steps-requires-clause-arms : goal.take_steps-requires-clause-arms
 take_steps-requires-clause-arms g c =
     let same = arms_are (parts_of c.args.parts.now) in
-    let most = c.requires.arms in
+    let most = c.requires.fit.arms in
     omega (arith, same, most)
 
 pub take_steps-requires-clause-room : goal.take_steps-requires-clause-room
@@ -42,7 +50,7 @@ take_steps-requires-clause-room g c =
     let parts = parts_of c.args.parts.now in
     let calls = alone_calls parts c.requires.can in
     let most = calls_most parts in
-    let few = c.requires.few in
+    let few = c.requires.fit.few in
     let none = c.in_ok-journal.ensures.len in
     let capacity = c.in_ok-journal.ensures.capacity in
     let count = c.for_parts-calls.ensures.machine in
@@ -55,9 +63,6 @@ take_steps-requires-clause-room g c =
       answers = omega (arith, answers, many);
       responses = responses;
     }
-
-pub returns-clause-boot : goal.returns-clause-boot
-returns-clause-boot g c = ap (λ (view : LifeView). view.boot) (c.life_of.ensures []) ∙ ap (λ state. Started c.args.generation state) c.twin-start.ensures
 
 -- A life begins with the generation that was restored, and none of its steps has failed.
 module _ {B : Type 0} {b : Ghosts B} (config : Config) (first : Generation) (store : Store B b) (running : IsRunning config first first store) where
@@ -75,58 +80,48 @@ module _ {B : Type 0} {b : Ghosts B} (config : Config) (first : Generation) (sto
     sequence = λ none. absurd none;
   }
 
-pub returns-clause-leaves : goal.returns-clause-leaves
-returns-clause-leaves g c =
+pub returns-clause-lived : goal.returns-clause-lived
+returns-clause-lived g c =
     let config = c.args.config.now in
-    let first = numbered c.args.generation c.args.buffers.now.state in
-    let stands = subst (λ (k : Config). Stands (start_from k c.args.buffers.now.state) [] (state_of c.boot.new.self)) c.requires.same c.boot.ensures.stands in
-    let living = c.take_steps.ensures.living first (begins config first c.args.store.now c.requires.running (state_of c.boot.new.self) stands) in
-    alone (λ (view : LifeView). Leaves config first view (moment_of (driver_of c.take_steps.new.store))) c.take_steps.new.account.journal.items
-    c.new-queue.ensures.items c.requires.room.none_told.0 (c.life_of.ensures (parts_of c.args.parts.now))
+    let parts = parts_of c.args.parts.now in
+    let state = c.args.buffers.now.state in
+    let first = numbered c.args.generation state in
+    let account = c.take_steps.new.account in
+    let own = told_in account.replies in
+    let before = driver_of c.args.store.now in
+    let after = moment_of (driver_of c.take_steps.new.store) in
+    let taken = c.take_steps.ensures.taken in
+    let stands = subst (λ (k : Config). Stands (start_from k state) [] (state_of c.boot.new.self)) c.requires.same c.boot.ensures.stands in
+    let begun = begins config first c.args.store.now c.requires.started.running (state_of c.boot.new.self) stands in
+    let living = taken.living first begun in
+    let is = c.life_of.ensures parts in
+    let none = c.new-queue.ensures.items in
+    let none_told = c.requires.room.none_told.0 in
     record {
-      held = living.held;
-      spare = living.spare;
-      last = living.kept.last;
-      sound = record { undamaged = g.met.D.Blocks.mounted_is_sound c.take_steps.new.store.nvm.blocks living.running.served.mounted; sound = living.running.sound };
-      acknowledged = living.kept.acknowledged;
-      held_is = living.kept.held_is;
-      spare_is = living.kept.spare_is;
-      rising = living.kept.rising;
+      boot = ap (λ (view : LifeView). view.boot) is ∙ ap (λ state. Started c.args.generation state) c.twin-start.ensures;
+      leaves = alone (λ (view : LifeView). Leaves config first view after) account.journal.items none none_told is
+          record {
+            held = living.held;
+            spare = living.spare;
+            last = living.kept.last;
+            sound = record { undamaged = g.met.D.Blocks.mounted_is_sound c.take_steps.new.store.nvm.blocks living.running.served.mounted; sound = living.running.sound };
+            acknowledged = living.kept.acknowledged;
+            held_is = living.kept.held_is;
+            spare_is = living.kept.spare_is;
+            rising = living.kept.rising;
+          };
+      caused = λ boot rose. alone (λ (view : LifeView). AreCaused config boot after (told_of view)) account.journal.items none none_told is
+          (are_caused config before.device.faults (deeds_told parts own) c.take_steps.new.store boot rose
+          (taken.caused before.device.faults (begins_caused config first c.args.store.now c.requires.started.running)));
+      played = alone (λ (view : LifeView). IsPlayed config view) account.journal.items none none_told is
+          (played_by config parts c.args.generation state c.twin-start.result account.journal.items own c.twin-start.ensures (taken.played first begun));
+      kept = alone (λ (view : LifeView). KeepsApplications (moment_of before) after view) account.journal.items none none_told is
+          record { held = c.take_steps.ensures.applications; got = alone_got before.value [] parts own [] c.requires.can };
+      given = c.take_steps.ensures.gives.given;
     }
 
-pub returns-clause-caused : goal.returns-clause-caused
-returns-clause-caused g c = λ before rose.
-    let config = c.args.config.now in
-    let parts = parts_of c.args.parts.now in
-    let account = c.take_steps.new.account in
-    let faults = (driver_of c.args.store.now).device.faults in
-    let begun = begins_caused config (numbered c.args.generation c.args.buffers.now.state) c.args.store.now c.requires.running in
-    alone (λ (view : LifeView). AreCaused config before (moment_of (driver_of c.take_steps.new.store)) (told_of view)) account.journal.items
-    c.new-queue.ensures.items c.requires.room.none_told.0 (c.life_of.ensures parts)
-    (are_caused config faults (deeds_told parts (told_in account.replies)) c.take_steps.new.store before rose (c.take_steps.ensures.caused faults begun))
-
-pub returns-clause-played : goal.returns-clause-played
-returns-clause-played g c =
-    let config = c.args.config.now in
-    let parts = parts_of c.args.parts.now in
-    let account = c.take_steps.new.account in
-    let first = numbered c.args.generation c.args.buffers.now.state in
-    let stands = subst (λ (k : Config). Stands (start_from k c.args.buffers.now.state) [] (state_of c.boot.new.self)) c.requires.same c.boot.ensures.stands in
-    alone (λ (view : LifeView). IsPlayed config view) account.journal.items c.new-queue.ensures.items c.requires.room.none_told.0 (c.life_of.ensures parts)
-    (played_by config parts c.args.generation c.args.buffers.now.state c.twin-start.result account.journal.items (told_in account.replies) c.twin-start.ensures
-    (c.take_steps.ensures.played first (begins config first c.args.store.now c.requires.running (state_of c.boot.new.self) stands)))
-
-pub returns-clause-kept : goal.returns-clause-kept
-returns-clause-kept g c =
-    let parts = parts_of c.args.parts.now in
-    let account = c.take_steps.new.account in
-    let before = moment_of (driver_of c.args.store.now) in
-    alone (λ (view : LifeView). KeepsApplications before (moment_of (driver_of c.take_steps.new.store)) view) account.journal.items
-    c.new-queue.ensures.items c.requires.room.none_told.0 (c.life_of.ensures parts)
-    record { held = c.take_steps.ensures.applications; got = alone_got before.value [] parts (told_in account.replies) [] c.requires.can }
-
-pub returns-clause-armed : goal.returns-clause-armed
-returns-clause-armed g c =
+pub returns-clause-stays : goal.returns-clause-stays
+returns-clause-stays g c =
     let same = arms_are (parts_of c.args.parts.now) in
-    let armed = c.take_steps.ensures.armed in
-    omega (arith, same, armed)
+    let armed = c.take_steps.ensures.gives.armed in
+    record { alive = c.take_steps.ensures.ready.alive; goes_on = c.take_steps.ensures.gives.goes_on; armed = omega (arith, same, armed) }

@@ -35,30 +35,27 @@ run_parts-requires-clause-can g c κs within =
       ready = record {
         dem = record {
           lock = c.in-Ok.ensures.lock;
-          has = record { same = ap (λ (s : Start). s.config) begins; valid = search rules; fits = subst (λ (s : Start). Fits config s.base) (sym begins) c.requires.fits };
+          has = record { same = ap (λ (s : Start). s.config) begins; valid = search rules; fits = subst (λ (s : Start). Fits config s.base) (sym begins) c.requires.started.fits };
         };
         queue = record { lock = c.in-Ok-make.ensures.lock; blocks = blocks; valid = search rules };
       };
       main = search rules;
-      alive = record { held = _; spare = _; running = c.requires.running };
-      steps = parts_for config (parts_of parts) c.requires.possible c.requires.few;
-      arms = c.requires.arms;
+      alive = record { held = _; spare = _; running = c.requires.started.running };
+      steps = parts_for config (parts_of parts) c.requires.fit.possible c.requires.fit.few;
+      arms = c.requires.fit.arms;
       calls = record {
         dem = omega (arith, calls, c.for_parts-calls.ensures.machine);
         queue = omega (arith, queued, c.for_parts-calls.ensures.queue);
-        dem_numbers = omega (arith, children, c.requires.numbers);
-        queue_numbers = omega (arith, job_children, c.requires.numbers);
+        dem_numbers = omega (arith, children, c.requires.fit.numbers);
+        queue_numbers = omega (arith, job_children, c.requires.fit.numbers);
       };
       rooms_are = c.in_ok-rooms.ensures;
       room = record {
-        few = omega (arith, count, c.requires.indices, ap length c.requires.room.own_empty.answers);
+        few = omega (arith, count, c.requires.fit.indices, ap length c.requires.room.own_empty.answers);
         own = c.requires.room.own_room;
         told = omega (arith, c.requires.room.none_told.1, c.requires.room.told_room);
       };
     }
-
-pub returns-clause-boot : goal.returns-clause-boot
-returns-clause-boot g c = ap (λ (view : LifeView). view.boot) (c.life_of-life.ensures (parts_of c.args.parts.now)) ∙ ap (λ s. boots.Started c.args.generation s) c.twin-start.ensures
 
 over : (g : given.Over) (c : goal.After-life_of-life g) → IsOver c.args.config.now c.args.buffers.now.state c.in-Ok.main c.run_parts.new.seats.dem c.in-Ok-make.jobs c.run_parts.new.seats.queue (parts_of c.args.parts.now) (told_in c.run_parts.new.answers.own)
     (map told_in c.run_parts.new.answers.told.items) c.close-journal.result.journal.items c.close-queued.result.journal.items c.args.store.now c.run_parts.new.store
@@ -76,17 +73,25 @@ over g c =
     (closed after journal c.close-journal.ensures.seen c.close-journal.ensures.olds c.close-journal.ensures.calls)
     (closed jobs_after queue c.close-queued.ensures.seen c.close-queued.ensures.olds c.close-queued.ensures.calls) c.run_parts.ensures.lived.carries
 
-pub returns-clause-leaves : goal.returns-clause-leaves
-returns-clause-leaves g c =
-    let first = numbered c.args.generation c.args.buffers.now.state in
+pub returns-clause-lived : goal.returns-clause-lived
+returns-clause-lived g c =
+    let config = c.args.config.now in
+    let state = c.args.buffers.now.state in
+    let first = numbered c.args.generation state in
     let parts = parts_of c.args.parts.now in
     let own = told_in c.run_parts.new.answers.own in
     let lanes = map told_in c.run_parts.new.answers.told.items in
     let journal = c.close-journal.result.journal.items in
     let queue = c.close-queued.result.journal.items in
-    let left = left_of c.args.config.now c.args.generation c.args.buffers.now.state _ _ _ _ parts own lanes journal queue c.args.store.now c.run_parts.new.store (over g c) c.requires.running in
+    let before = moment_of (driver_of c.args.store.now) in
+    let after = moment_of (driver_of c.run_parts.new.store) in
+    let running = c.requires.started.running in
+    let left = left_of config c.args.generation state _ _ _ _ parts own lanes journal queue c.args.store.now c.run_parts.new.store (over g c) running in
+    let holds = holds_of config c.args.generation state _ _ _ _ parts own lanes journal queue c.args.store.now c.run_parts.new.store (over g c) running in
+    let turned = turned_life (start_from config state) parts own lanes journal queue (over g c).ended.life in
     let view : LifeView = record { parts = parts; boot = _; journal = reverse journal; queue = reverse queue; own = own; lanes = lanes } in
-    let leaves : Leaves c.args.config.now first view (moment_of (driver_of c.run_parts.new.store)) = record {
+    let is = sym {b = view} (c.life_of-life.ensures parts) in
+    let leaves : Leaves config first view after = record {
       held = left.held;
       spare = left.spare;
       last = left.kept.last;
@@ -96,39 +101,14 @@ returns-clause-leaves g c =
       spare_is = left.kept.spare_is;
       rising = left.kept.rising;
     } in
-    subst (λ (view : LifeView). Leaves c.args.config.now first view (moment_of (driver_of c.run_parts.new.store))) (sym {b = view} (c.life_of-life.ensures parts)) leaves
-
-pub returns-clause-caused : goal.returns-clause-caused
-returns-clause-caused g c = λ boot rose.
-    let parts = parts_of c.args.parts.now in
-    let own = told_in c.run_parts.new.answers.own in
-    let lanes = map told_in c.run_parts.new.answers.told.items in
-    let journal = c.close-journal.result.journal.items in
-    let queue = c.close-queued.result.journal.items in
-    let view : LifeView = record { parts = parts; boot = _; journal = reverse journal; queue = reverse queue; own = own; lanes = lanes } in
-    subst (λ (view : LifeView). AreCaused c.args.config.now boot (moment_of (driver_of c.run_parts.new.store)) (told_of view)) (sym {b = view} (c.life_of-life.ensures parts))
-    (caused_of c.args.config.now c.args.generation c.args.buffers.now.state _ _ _ _ parts own lanes journal queue c.args.store.now c.run_parts.new.store (over g c) c.requires.running boot rose)
-
-pub returns-clause-played : goal.returns-clause-played
-returns-clause-played g c =
-    let parts = parts_of c.args.parts.now in
-    let own = told_in c.run_parts.new.answers.own in
-    let lanes = map told_in c.run_parts.new.answers.told.items in
-    let journal = c.close-journal.result.journal.items in
-    let queue = c.close-queued.result.journal.items in
-    let view : LifeView = record { parts = parts; boot = _; journal = reverse journal; queue = reverse queue; own = own; lanes = lanes } in
-    let turned = turned_life (start_from c.args.config.now c.args.buffers.now.state) parts own lanes journal queue (over g c).ended.life in
-    subst (λ (view : LifeView). IsPlayed c.args.config.now view) (sym {b = view} (c.life_of-life.ensures parts))
-    (subst (λ (s : _). IsLife (start_from c.args.config.now s) parts own lanes (reverse (reverse journal)) (reverse (reverse queue))) (sym c.twin-start.ensures) turned)
-
-pub returns-clause-kept : goal.returns-clause-kept
-returns-clause-kept g c =
-    let parts = parts_of c.args.parts.now in
-    let own = told_in c.run_parts.new.answers.own in
-    let lanes = map told_in c.run_parts.new.answers.told.items in
-    let journal = c.close-journal.result.journal.items in
-    let queue = c.close-queued.result.journal.items in
-    let view : LifeView = record { parts = parts; boot = _; journal = reverse journal; queue = reverse queue; own = own; lanes = lanes } in
-    let holds = holds_of c.args.config.now c.args.generation c.args.buffers.now.state _ _ _ _ parts own lanes journal queue c.args.store.now c.run_parts.new.store (over g c) c.requires.running in
-    subst (λ (view : LifeView). KeepsApplications (moment_of (driver_of c.args.store.now)) (moment_of (driver_of c.run_parts.new.store)) view) (sym {b = view} (c.life_of-life.ensures parts))
-    record { held = holds.held; got = holds.got }
+    record {
+      boot = ap (λ (view : LifeView). view.boot) (c.life_of-life.ensures parts) ∙ ap (λ s. boots.Started c.args.generation s) c.twin-start.ensures;
+      leaves = subst (λ (view : LifeView). Leaves config first view after) is leaves;
+      caused = λ boot rose.
+          subst (λ (view : LifeView). AreCaused config boot after (told_of view)) is
+          (caused_of config c.args.generation state _ _ _ _ parts own lanes journal queue c.args.store.now c.run_parts.new.store (over g c) running boot rose);
+      played = subst (λ (view : LifeView). IsPlayed config view) is
+          (subst (λ (s : _). IsLife (start_from config s) parts own lanes (reverse (reverse journal)) (reverse (reverse queue))) (sym c.twin-start.ensures) turned);
+      kept = subst (λ (view : LifeView). KeepsApplications before after view) is (record { held = holds.held; got = holds.got });
+      given = c.run_parts.ensures.lived.given;
+    }

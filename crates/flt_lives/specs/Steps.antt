@@ -1,0 +1,87 @@
+-- What the steps of a life without other lanes need, and what they leave.
+use Rattle.std.specs.Prelude.{◌≡◌, ℕ, ◌+◌, ◌<◌, ◌≤◌, ◌^◌, List, [], ◌∷◌, ◌++◌, Vec, reverse, vec_len}
+use Rattle.std.specs.Vec.{vec_capacity}
+use Rattle.flt_config.specs.declared.config.Config.{Config}
+use Rattle.flt_flash.specs.declared.arm.Arm.{Arm}
+use Rattle.flt_flash.specs.declared.blocks.Blocks.{Ghosts}
+use Rattle.flt_flash.specs.Blocks.{BlocksState, DeviceState}
+use Rattle.flt_model.specs.declared.call.Op.{Op}
+use Rattle.flt_store_model.specs.Holding.{Generation}
+use Rattle.flt_dcm.specs.declared.unit.Unit.{Unit as Machine}
+use Rattle.flt_dcm.specs.Unit.{Stands}
+use Rattle.flt_dcm.specs.Whole.{config_of, state_of}
+use Rattle.flt_step.specs.declared.step.Step.{Step}
+use Rattle.flt_step.specs.Part.{PartOf}
+use Rattle.flt_turn.specs.declared.vault.Entry.{Entry}
+use Rattle.flt_store.specs.declared.store.Store.{Store}
+use Rattle.flt_store.specs.Store.{IsAlive}
+use Rattle.flt_life_model.specs.declared.action.Action.{Action}
+use Rattle.flt_life_model.specs.Actions.{IsPossible, arm_count}
+use Rattle.flt_life_model.specs.Answers.{Told}
+use Rattle.flt_life_model.specs.Chain.{start_from}
+use Rattle.flt_life_model.specs.Going.{GoesOn, WereGiven}
+use Rattle.flt_life_model.specs.Journal.{calls_of}
+use Rattle.flt_life_model.specs.Played.{IsLife}
+use Rattle.flt_life_model.specs.Room.{told_in}
+use Rattle.flt_life_model.specs.SoFar.{IsCaused}
+use Rattle.flt_lives.specs.declared.account.Account.{Account}
+use Rattle.flt_lives.specs.Alone.{IsPlain}
+use Rattle.flt_lives.specs.Carried.{IsCarriedOut}
+use Rattle.flt_lives.specs.Living.{IsLiving, IsUnderWay, deeds_told, with_answer}
+
+-- A possible step that leaves the queue and the application blocks alone, and for whose arm the bench of a device has a place.
+pub record IsPlainStep (c : Config) (action : Action) (device : DeviceState) : Type 0 where
+  pub possible : IsPossible c action
+  pub plain : IsPlain action
+  pub arms : device.bench.armed + arm_count action ≤ 64
+
+-- A journal has room for so many calls, and a number for the place of each.
+pub record HasCallsLeft {A : Type 0} (count : ℕ) (journal : Vec (Entry Op) A) : Type 0 where
+  pub calls : vec_len journal + count ≤ vec_capacity journal
+  pub few : vec_len journal < 2 ^ 32
+
+-- At most so many calls were written behind those of a journal, in the room that was there.
+pub record AddsCalls {A : Type 0} (count : ℕ) (before after : Vec (Entry Op) A) : Type 0 where
+  pub calls : vec_len after ≤ vec_len before + count
+  pub room : vec_capacity after ≡ vec_capacity before
+
+-- Steps of one life gave these arms to the bench of a driver, and no more than so many.
+pub record GivesArms (arms : List Arm) (most : ℕ) (before after : BlocksState) : Type 0 where
+  pub goes_on : GoesOn before after
+  pub given : WereGiven arms before.device.bench.arms after.device.bench.arms
+  pub armed : after.device.bench.armed ≤ before.device.bench.armed + most
+
+-- No call and no answer yet.
+pub record IsNewAccount (account : Account) : Type 0 where
+  pub calls : account.journal.items ≡ []
+  pub answers : told_in account.replies ≡ []
+
+module _ {F : _} {g : _} {B : Type 0} {b : Ghosts B} where
+  -- A unit and a store between two steps: the unit has this configuration and stands for some calls, and the store runs.
+  pub record AreOnTheirWay (c : Config) (unit : Machine F g) (store : Store B b) : Type 0 where
+    pub same : config_of unit ≡ c
+    pub under_way : IsUnderWay c (state_of unit)
+    pub alive : IsAlive c store
+
+  -- A step was made and has this answer: its calls are behind the others, a life that was living goes on, and each failure has its cause.
+  pub record AnswersStep {A : Type 0} (c : Config) (action : Action) (unit next_unit : Machine F g) (store next_store : Store B b)
+      (before after : Vec (Entry Op) A) (told : Told) : Type 0 where
+    pub carried : (first : Generation) → Stands (start_from c first.state) (calls_of (reverse before.items)) (state_of unit)
+        → IsCarriedOut (start_from c first.state) (reverse before.items) action (reverse after.items) told
+    pub living : (first : Generation) (earlier : List Told) → IsLiving c first (reverse before.items) earlier (state_of unit) store
+        → IsLiving c first (reverse after.items) (with_answer action told earlier) (state_of next_unit) next_store
+    pub caused : (begun : ℕ) (earlier : List Told) → IsCaused c begun earlier store → IsCaused c begun (with_answer action told earlier) next_store
+
+  -- The same, with the answer behind those of an account.
+  pub record TakesStep (c : Config) (action : Action) (unit next_unit : Machine F g) (store next_store : Store B b) (before after : Account) : Type 0 where
+    pub last : Told
+    pub answers : told_in after.replies ≡ told_in before.replies ++ last ∷ []
+    pub step : AnswersStep c action unit next_unit store next_store before.journal after.journal last
+
+  -- A life had these parts and no other: it goes on, its calls and its answers are those of its steps, and each failure has its cause.
+  pub record HasTakenSteps (c : Config) (parts : List (PartOf Step)) (unit next_unit : Machine F g) (store next_store : Store B b) (account : Account) : Type 0 where
+    pub living : (first : Generation) → IsLiving c first [] [] (state_of unit) store
+        → IsLiving c first (reverse account.journal.items) (deeds_told parts (told_in account.replies)) (state_of next_unit) next_store
+    pub played : (first : Generation) → IsLiving c first [] [] (state_of unit) store
+        → IsLife (start_from c first.state) parts (told_in account.replies) [] account.journal.items []
+    pub caused : (begun : ℕ) → IsCaused c begun [] store → IsCaused c begun (deeds_told parts (told_in account.replies)) next_store
