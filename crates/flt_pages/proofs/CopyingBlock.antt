@@ -55,15 +55,17 @@ module _ (used : ℕ) (numbers : List ℕ) (before : FlashState) (shape : HasSha
     nothing : held_in used numbers (sector_at before.image sector) number ≡ missing
     nothing = is.holds
 
-    pub block_missing : CopiesBlock before before other used numbers number end content (Ok end)
+    pub block_missing : CopiesBlock before before sector other used numbers number end (Ok end)
     block_missing = record {
-      pages = sector_at before.image other;
-      on = record { image = sym (set-get_or before.image other []); wear = refl; runs = no_run before };
-      gates = same_kept (sector_at before.image other);
+      written = record {
+        pages = sector_at before.image other;
+        on = record { image = sym (set-get_or before.image other []); wear = refl; runs = no_run before };
+        gates = same_kept (sector_at before.image other);
+        cause = tt;
+      };
       stays = λ k lt. refl;
       place = (let pages : pages_of content ≡ 0 = ap pages_of nothing in omega (arith, pages));
       done = λ value unset holds. record { entries = holds.entries; is = holds.is; gives = λ block. holds.gives block ∙ by_test value unset block (number == block) refl };
-      cause = tt;
     }
       where
         by_test : (value : ℕ → Content) → value number ≡ missing → (block : ℕ) (test : Bool) → test ≡ (number == block)
@@ -112,9 +114,10 @@ module _ (used : ℕ) (numbers : List ℕ) (before : FlashState) (shape : HasSha
       stays_below : (k : ℕ) → k < end → get_or does.pages k [] ≡ get_or (sector_at before.image other) k []
       stays_below k lt = (left_apart (sector_at before.image other) does.pages end number (bytes_at (sector_at before.image sector) place) place.valid does.left).1.before k lt
 
-      pub block_torn : (told : Result ℕ FlashFailed) → IsErr told → HasRisenBy 1 before.faults after.faults → CopiesBlock before after other used numbers number end content told
+      pub block_torn : (told : Result ℕ FlashFailed) → IsErr told → HasRisenBy 1 before.faults after.faults → CopiesBlock before after sector other used numbers number end told
       block_torn (Ok x) fails rose = absurd (cc fails)
-      block_torn (Err e) fails rose = record { pages = does.pages; on = does.on; gates = gates_of_both; stays = stays_below; place = tt; done = tt; cause = rose }
+      block_torn (Err e) fails rose =
+          record { written = record { pages = does.pages; on = does.on; gates = gates_of_both; cause = rose }; stays = stays_below; place = tt; done = tt }
 
       module _ (last : ℕ) (ok : result ≡ Ok tt) (ends : last ≡ end + (2 + byte_pages place.length)) where
         whole : IsWhole (sector_at before.image other) does.pages end number (bytes_at (sector_at before.image sector) place) place.valid
@@ -123,14 +126,12 @@ module _ (used : ℕ) (numbers : List ℕ) (before : FlashState) (shape : HasSha
         far : end + (2 + byte_pages (length (bytes_at (sector_at before.image sector) place))) ≡ last
         far = omega (arith, size, ends)
 
-        pub block_copied : CopiesBlock before after other used numbers number end content (Ok last)
+        pub block_copied : CopiesBlock before after sector other used numbers number end (Ok last)
         block_copied =
             let short = length_most place.valid place.length within.kind in
             let proper : IsWord (Head number (length (bytes_at (sector_at before.image sector) place)) place.valid end) = (small, omega (arith, size, short), omega (arith, place_room, fits), kind) in
             record {
-              pages = does.pages;
-              on = does.on;
-              gates = gates_of_both;
+              written = record { pages = does.pages; on = does.on; gates = gates_of_both; cause = tt };
               stays = stays_below;
               place = omega (arith, ends, content_size);
               done = λ value unset holds.
@@ -138,7 +139,6 @@ module _ (used : ℕ) (numbers : List ℕ) (before : FlashState) (shape : HasSha
                   (subst (λ n. LogHolds used numbers does.pages n (given number (asked_of place.valid (bytes_at (sector_at before.image sector) place)) value)) far
                   (whole_record used numbers (sector_at before.image other) does.pages end value least holds number (bytes_at (sector_at before.image sector) place) place.valid proper (proper.0, proper.2)
                   (is_among numbers number member) (omega (arith, size, place_room)) whole));
-              cause = tt;
             }
 
         -- Its place is that of the copy.

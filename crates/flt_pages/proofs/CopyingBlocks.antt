@@ -161,24 +161,33 @@ module _ (used : ℕ) (numbers : List ℕ) (start : FlashState) (shape : HasShap
       }
 
       pub block_failed : (after : FlashState) (failed : FlashFailed) (result : Result ℕ FlashFailed) → IsErr result
-          → CopiesBlock now after other used numbers number end (held_in used numbers (sector_at now.image sector) number) (Err failed) → CopiesBlocks start after sector other used numbers result
+          → CopiesBlock now after sector other used numbers number end (Err failed) → CopiesBlocks start after sector other used numbers result
       block_failed after failed (Ok x) fails does = absurd (cc fails)
       block_failed after failed (Err e) fails does =
-          record { pages = does.pages; on = joined after does.pages does.on; gates = kept does.pages does.gates; room = tt; done = tt; cause = omega (arith, does.cause, is.on.runs.counts) }
+          record {
+            written = record {
+              pages = does.written.pages;
+              on = joined after does.written.pages does.written.on;
+              gates = kept does.written.pages does.written.gates;
+              cause = omega (arith, does.written.cause, is.on.runs.counts);
+            };
+            room = tt;
+            done = tt;
+          }
 
-      pub block_done : (after : FlashState) (last : ℕ) → CopiesBlock now after other used numbers number end (held_in used numbers (sector_at now.image sector) number) (Ok last) → Copying used numbers start after sector other last (number + 1)
+      pub block_done : (after : FlashState) (last : ℕ) → CopiesBlock now after sector other used numbers number end (Ok last) → Copying used numbers start after sector other last (number + 1)
       block_done after last does =
-          let there = pages_on now after other does.pages shape_now in_other does.on in
+          let there = pages_on now after other does.written.pages shape_now in_other does.written.on in
           let here = does.done (below from value) (below_out value from number next.found.1) is.holds in
           let same = given_next value from number next.found.1 (none_between from number next) in
-          let holds : LogHolds used numbers does.pages last (below (number + 1) (held_in used numbers (sector_at start.image sector))) = record {
+          let holds : LogHolds used numbers does.written.pages last (below (number + 1) (held_in used numbers (sector_at start.image sector))) = record {
             entries = here.entries;
             is = here.is;
             gives = λ block. here.gives block ∙ ap (λ (c : Content). given number c (below from value) block) (content_now number) ∙ same block;
           } in
           record {
-            on = subst (λ (pages : List (List ℕ)). OnSector start after other pages) (sym there) (joined after does.pages does.on);
-            gates = subst (λ (pages : List (List ℕ)). KeepsGates (sector_at start.image other) pages) (sym there) (kept does.pages does.gates);
+            on = subst (λ (pages : List (List ℕ)). OnSector start after other pages) (sym there) (joined after does.written.pages does.written.on);
+            gates = subst (λ (pages : List (List ℕ)). KeepsGates (sector_at start.image other) pages) (sym there) (kept does.written.pages does.written.gates);
             holds = subst (λ (pages : List (List ℕ)). LogHolds used numbers pages last (below (number + 1) (held_in used numbers (sector_at start.image sector)))) (sym there) holds;
             room = omega (arith, does.place, is.room, ap pages_of (content_now number), sum_next value from number numbers next.found.1 next.found.0);
           }
@@ -195,7 +204,7 @@ module _ (used : ℕ) (numbers : List ℕ) (start : FlashState) (shape : HasShap
           (moves.waits is.index is.within (omega (arith, low, is.number)))))
 
       pub moves_on : (number : ℕ) → IsLeastFrom from numbers (Some number) → (after : FlashState) (last : ℕ)
-          → CopiesBlock now after other used numbers number end (held_in used numbers (sector_at now.image sector) number) (Ok last) → (then_places : List (Option RecordPlace))
+          → CopiesBlock now after sector other used numbers number end (Ok last) → (then_places : List (Option RecordPlace))
           → Replaces numbers (sector_at after.image other) places then_places number last (held_in used numbers (sector_at now.image sector) number)
           → Moves numbers then_places start after sector other used last (number + 1) value
       moves_on number next after last does then_places replaces = record {
@@ -213,11 +222,11 @@ module _ (used : ℕ) (numbers : List ℕ) (start : FlashState) (shape : HasShap
             (moves.waits k within (omega (arith, le, next.found.1)));
       }
         where
-          there : sector_at after.image other ≡ does.pages
-          there = pages_on now after other does.pages shape_now in_other does.on
+          there : sector_at after.image other ≡ does.written.pages
+          there = pages_on now after other does.written.pages shape_now in_other does.written.on
 
           size : length (sector_at after.image other) ≡ length (sector_at now.image other)
-          size = ap length there ∙ does.gates.size
+          size = ap length there ∙ does.written.gates.size
 
           lower : (k : ℕ) → k < length numbers → get_or numbers k 0 < number + 1 → get_or numbers k 0 ≢ number → get_or numbers k 0 < from
           lower k within lt apart_of = elim (cases_lt (get_or numbers k 0) from) [
@@ -231,9 +240,7 @@ module _ (used : ℕ) (numbers : List ℕ) (start : FlashState) (shape : HasShap
     -- All blocks are copied.
     pub all_done : IsLeastFrom from numbers None → CopiesBlocks start now sector other used numbers (Ok end)
     all_done none = record {
-      pages = sector_at now.image other;
-      on = is.on;
-      gates = is.gates;
+      written = record { pages = sector_at now.image other; on = is.on; gates = is.gates; cause = tt };
       room = omega (arith, is.room, sum_all value from numbers);
       done = record {
         entries = is.holds.entries;
@@ -243,5 +250,4 @@ module _ (used : ℕ) (numbers : List ℕ) (start : FlashState) (shape : HasShap
           | inr out ↦ below_out value from block out ∙ sym (none_of block (λ k within same. (let under = none.none k within in omega (arith, same, under))))
         ];
       };
-      cause = tt;
     }

@@ -10,5 +10,6 @@ pub mod Record
 pub mod Recorded
 pub mod RecordPlace
 pub mod Live
+pub mod Needs
 pub mod SetUp
 pub mod Switch

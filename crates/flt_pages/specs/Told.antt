@@ -3,6 +3,7 @@ use Rattle.std.specs.Prelude.{◌≡◌, ◌⊎◌, ℕ, Option, Some, None, Res
 use Rattle.flt_flash.specs.declared.blocks.BlockFault.{BlockFault}
 use Rattle.flt_flash.specs.declared.blocks.BlockFault.TheVariants as blocks
 use Rattle.flt_sector_model.specs.Blocks.{Current}
+use Rattle.flt_sector_model.specs.Log.{LogFrom}
 use Rattle.flt_pages.specs.declared.fault.PageFault.{PageFault}
 use Rattle.flt_pages.specs.declared.fault.PageFault.TheVariants.{Flash, Damaged}
 use Rattle.flt_pages.specs.declared.sectors.CurrentSector.{CurrentSector}
@@ -21,6 +22,10 @@ told_fault sector (Some page) = Err (Damaged sector page)
 abbrev pub told_end : ℕ → ℕ → Option ℕ → Result ℕ PageFault
 told_end sector end None = Ok end
 told_end sector end (Some page) = Err (Damaged sector page)
+
+-- The same, of a log.
+abbrev pub told_log : ℕ → LogFrom → Result ℕ PageFault
+told_log sector log = told_end sector log.end log.fault
 
 -- The current sector, or the fault of a gate.
 abbrev pub told_current : Result (Option Current) (ℕ × ℕ) → Result (Option CurrentSector) PageFault

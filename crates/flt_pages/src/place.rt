@@ -1,11 +1,11 @@
 //! The places of current records, and the look at a log that finds them.
-ghost use Rattle.std.specs.Prelude.{◌≡◌, ◌≢◌, ◌+◌, ◌<◌, ◌≤◌, ◌==◌, ◌&&◌, ℕ, if◌then◌else◌, Some, None, IfOk, IfSome, IfNone, IsErrOf, Contains, length, slice_index_or};
-ghost use Rattle.std.specs.List.{AllPairs};
+ghost use Rattle.std.specs.Prelude.{◌≡◌, ◌+◌, ◌<◌, ◌≤◌, ◌==◌, ◌&&◌, ℕ, if◌then◌else◌, Some, None, IfOk, IfSome, IfNone, IsErrOf, Contains, length, slice_index_or};
 ghost use Rattle.flt_flash.specs.Image.{sector_at};
 ghost use Rattle.flt_flash.specs.State.{OnlyReads, HasRisenBy};
 ghost use Rattle.flt_sector_model.specs.Log.{log};
-ghost use Rattle.flt_pages.specs.Told.{TellsOrFails, told_end};
+ghost use Rattle.flt_pages.specs.Told.{TellsOrFails, told_log};
 ghost use Rattle.flt_pages.specs.Live.{held_in};
+ghost use Rattle.flt_pages.specs.Needs.{HasUsedPages, IsTableOf};
 ghost use Rattle.flt_pages.specs.RecordPlace.{IsPlaceOf, TellsPlaces};
 
 use crate::PageFault;
@@ -49,8 +49,7 @@ pub fn note(
     complete: bool,
     place: RecordPlace,
 )
-    requires size { length places.old ≡ length numbers.now }
-    requires distinct { AllPairs (λ a b. a ≢ b) numbers.now }
+    requires table { IsTableOf numbers.now places.old }
     ensures size { length places.new ≡ length places.old }
     ensures noted { (k : ℕ) → k < length numbers.now → slice_index_or places.new k None
         ≡ (if complete && (block == slice_index_or numbers.now k 0) then Some place else slice_index_or places.old k None) }
@@ -85,13 +84,9 @@ pub fn find_places<F: Flash>(
     numbers: &Numbers,
     places: &mut [Option<RecordPlace>],
 ) -> Result<u16, PageFault>
-    requires sector { sector < 2 }
-    requires least { 2 ≤ used }
-    requires most { used ≤ (F.state flash.old).pages }
-    requires size { length places.old ≡ length numbers.now }
-    requires distinct { AllPairs (λ a b. a ≢ b) numbers.now }
-    ensures end { TellsOrFails result (told_end sector (log used numbers.now (sector_at (F.state flash.old).image sector)).end
-        (log used numbers.now (sector_at (F.state flash.old).image sector)).fault) }
+    requires pages { HasUsedPages (F.state flash.old) sector used }
+    requires table { IsTableOf numbers.now places.old }
+    ensures end { TellsOrFails result (told_log sector (log used numbers.now (sector_at (F.state flash.old).image sector))) }
     ensures places { IfOk result (λ end. TellsPlaces numbers.now places.new (sector_at (F.state flash.old).image sector) end
         (held_in used numbers.now (sector_at (F.state flash.old).image sector))) }
     ensures size { length places.new ≡ length numbers.now }

@@ -1,18 +1,14 @@
 //! The two sectors of a flash: the current one, the first one, and the switch from one to the other.
-ghost use Rattle.std.specs.Prelude.{Option, ◌≡◌, ◌+◌, ◌-◌, ◌*◌, ◌^◌, ◌<◌, ◌≤◌, ◌≢◌, Ok, Some, None, Contains, IfOk, OnOk, OnErr, IsErrOf, length, slice_index, slice_set};
-ghost use Rattle.std.specs.List.{AllPairs};
+ghost use Rattle.std.specs.Prelude.{◌≡◌, ◌+◌, ◌≤◌, Ok, None, IfOk, OnOk, OnErr, IsErrOf, length, slice_index, slice_set};
 ghost use Rattle.flt_flash.specs.Image.{sector_at};
 ghost use Rattle.flt_flash.specs.State.{OnlyReads, MakesOperations, HasRisenBy, counted};
-ghost use Rattle.flt_flash.specs.Blocks.{pages_of};
-ghost use Rattle.flt_sector_model.specs.Log.{log};
 ghost use Rattle.flt_sector_model.specs.Blocks.{current};
 ghost use Rattle.flt_pages.specs.Told.{TellsOrFails, told_current};
-ghost use Rattle.flt_pages.specs.Blank.{AreBlank};
-ghost use Rattle.flt_pages.specs.Live.{held_in, current_pages};
-ghost use Rattle.flt_pages.specs.LogHolds.{StandsAt};
-ghost use Rattle.flt_pages.specs.RecordPlace.{IsAt, IsPlaceOf, TellsPlaces};
+ghost use Rattle.flt_pages.specs.Live.{held_in};
+ghost use Rattle.flt_pages.specs.Needs.{CanBeCopied, CanCopyBlock, CanSwitch, HasBlankOther, HasSoundLog, IsTableOf};
+ghost use Rattle.flt_pages.specs.RecordPlace.{TellsPlaces};
 ghost use Rattle.flt_pages.specs.SetUp.{IsFresh, HoldsNothing};
-ghost use Rattle.flt_pages.specs.Switch.{CopiesBlock, CopiesBlocks, Erases, GivesValues, Replaces};
+ghost use Rattle.flt_pages.specs.Switch.{CopiesBlock, CopiesBlocks, GivesValues, HasSwitched, Replaces, TakesTwoForEach};
 
 use crate::PageFault;
 use crate::append::{activate, begin};
@@ -100,24 +96,13 @@ fn copy_block<F: Flash>(
     number: u16,
     end: u16,
 ) -> Result<u16, FlashFailed>
-    requires sector { sector < 2 }
-    requires other { other < 2 }
-    requires apart { other ≢ sector }
-    requires least { 2 ≤ used }
-    requires most { used ≤ (F.state flash.old).pages }
-    requires sound { (log used numbers.now (sector_at (F.state flash.old).image sector)).fault ≡ None }
-    requires size { length places.old ≡ length numbers.now }
-    requires distinct { AllPairs (λ a b. a ≢ b) numbers.now }
-    requires place { (found : Option RecordPlace) → IsPlaceOf numbers.now places.old number found
-        → IsAt (sector_at (F.state flash.old).image sector) used (held_in used numbers.now (sector_at (F.state flash.old).image sector) number) found }
-    requires number { Contains numbers.now number }
-    requires begun { 2 ≤ end }
-    requires room { end + pages_of (held_in used numbers.now (sector_at (F.state flash.old).image sector) number) ≤ used }
-    requires blank { AreBlank (sector_at (F.state flash.old).image other) end used }
-    ensures copies { CopiesBlock (F.state flash.old) (F.state flash.new) other used numbers.now number end
-        (held_in used numbers.now (sector_at (F.state flash.old).image sector) number) result }
+    requires log { HasSoundLog (F.state flash.old) sector used numbers.now }
+    requires table { IsTableOf numbers.now places.old }
+    requires block { CanCopyBlock (F.state flash.old) sector used numbers.now places.old number end }
+    requires other { HasBlankOther (F.state flash.old) sector other end used }
+    ensures copies { CopiesBlock (F.state flash.old) (F.state flash.new) sector other used numbers.now number end result }
     ensures size { length places.new ≡ length numbers.now }
-    ensures operations { IfOk result (λ last. (F.state flash.new).operations + 2 * end ≤ (F.state flash.old).operations + 2 * last) }
+    ensures operations { TakesTwoForEach end (F.state flash.old) (F.state flash.new) result }
     ensures table { IfOk result (λ last. Replaces numbers.now (sector_at (F.state flash.new).image other) places.old places.new number last
         (held_in used numbers.now (sector_at (F.state flash.old).image sector) number)) }
 {
@@ -141,22 +126,12 @@ fn copy_blocks<F: Flash>(
     numbers: &Numbers,
     places: &mut [Option<RecordPlace>],
 ) -> Result<u16, FlashFailed>
-    requires sector { sector < 2 }
-    requires other { other < 2 }
-    requires apart { other ≢ sector }
-    requires least { 2 ≤ used }
-    requires most { used ≤ (F.state flash.old).pages }
-    requires sound { (log used numbers.now (sector_at (F.state flash.old).image sector)).fault ≡ None }
-    requires room { 2 + current_pages used numbers.now (sector_at (F.state flash.old).image sector) ≤ used }
-    requires blank { AreBlank (sector_at (F.state flash.old).image other) 2 used }
-    requires size { length places.old ≡ length numbers.now }
-    requires distinct { AllPairs (λ a b. a ≢ b) numbers.now }
-    requires table { TellsPlaces numbers.now places.old (sector_at (F.state flash.old).image sector) used
-        (held_in used numbers.now (sector_at (F.state flash.old).image sector)) }
+    requires source { CanBeCopied (F.state flash.old) sector used numbers.now places.old }
+    requires other { HasBlankOther (F.state flash.old) sector other 2 used }
     ensures size { length places.new ≡ length numbers.now }
     ensures table { IfOk result (λ end. TellsPlaces numbers.now places.new (sector_at (F.state flash.new).image other) end
         (held_in used numbers.now (sector_at (F.state flash.old).image sector))) }
-    ensures operations { IfOk result (λ end. (F.state flash.new).operations + 4 ≤ (F.state flash.old).operations + 2 * end) }
+    ensures operations { TakesTwoForEach 2 (F.state flash.old) (F.state flash.new) result }
     ensures copies { CopiesBlocks (F.state flash.old) (F.state flash.new) sector other used numbers.now result }
 {
     let mut end = 2;
@@ -178,26 +153,10 @@ pub fn switch_sectors<F: Flash>(
     sector: u8,
     sequence: u32,
 ) -> Result<u16, FlashFailed>
-    requires sector { sector < 2 }
-    requires least { 4 ≤ used }
-    requires most { used ≤ (F.state flash.old).pages }
-    requires current { current used (F.state flash.old).image ≡ Ok (Some (record { sector = sector; sequence = sequence })) }
-    requires sound { (log used numbers.now (sector_at (F.state flash.old).image sector)).fault ≡ None }
-    requires next { sequence + 1 < 2 ^ 32 }
-    requires room { 2 + current_pages used numbers.now (sector_at (F.state flash.old).image sector) ≤ used }
-    requires size { length places.old ≡ length numbers.now }
-    requires distinct { AllPairs (λ a b. a ≢ b) numbers.now }
-    requires table { TellsPlaces numbers.now places.old (sector_at (F.state flash.old).image sector) used
-        (held_in used numbers.now (sector_at (F.state flash.old).image sector)) }
+    requires can { CanSwitch (F.state flash.old) sector sequence used numbers.now places.old }
+    ensures switched { IfOk result (λ end. HasSwitched (F.state flash.old) (F.state flash.new) sector sequence used numbers.now places.new end) }
+    ensures values { GivesValues used numbers.now (F.state flash.new).image (held_in used numbers.now (sector_at (F.state flash.old).image sector)) }
     ensures size { length places.new ≡ length numbers.now }
-    ensures table { IfOk result (λ end. TellsPlaces numbers.now places.new (sector_at (F.state flash.new).image (1 - sector)) end
-        (held_in used numbers.now (sector_at (F.state flash.old).image sector))) }
-    ensures room { IfOk result (λ end. end ≤ 2 + current_pages used numbers.now (sector_at (F.state flash.old).image sector)) }
-    ensures switched { IfOk result (λ end. StandsAt used numbers.now (F.state flash.new).image (1 - sector) (sequence + 1) end
-        (held_in used numbers.now (sector_at (F.state flash.old).image sector))) }
-    ensures left { GivesValues used numbers.now (F.state flash.new).image (held_in used numbers.now (sector_at (F.state flash.old).image sector)) }
-    ensures erases { OnOk result (Erases (3 + 2 * current_pages used numbers.now (sector_at (F.state flash.old).image sector)) (1 - sector) (F.state flash.old)
-        (F.state flash.new)) }
     ensures runs { MakesOperations (F.state flash.old) (F.state flash.new) }
     ensures cause { OnErr result (HasRisenBy 1 (F.state flash.old).faults (F.state flash.new).faults) }
 {

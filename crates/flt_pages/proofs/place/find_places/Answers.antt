@@ -28,25 +28,25 @@ kept g c =
     kept_on c.args.used c.args.numbers.now (sector_at (g.F.Flash.state c.args.flash.now).image c.args.sector) c.log.page c.log.invariant.goes_on c.in-Kept.block c.in-Kept.length c.in-Kept.valid c.in-Kept.complete found
 
 pub item-requires-clause-used : goal.item-requires-clause-used
-item-requires-clause-used g c = omega (arith, c.log.invariant.reads.runs.pages, c.requires.most)
+item-requires-clause-used g c = omega (arith, c.log.invariant.reads.runs.pages, c.requires.pages.most)
 
 pub item-requires-clause-page : goal.item-requires-clause-page
 item-requires-clause-page g c = c.log.invariant.goes_on.below
 
 pub blank_from-requires-clause-used : goal.blank_from-requires-clause-used
-blank_from-requires-clause-used g c = omega (arith, c.in_ok-item.ensures.reads.runs.pages, c.log.invariant.reads.runs.pages, c.requires.most)
+blank_from-requires-clause-used g c = omega (arith, c.in_ok-item.ensures.reads.runs.pages, c.log.invariant.reads.runs.pages, c.requires.pages.most)
 
 pub blank_from-requires-clause-page : goal.blank_from-requires-clause-page
 blank_from-requires-clause-page g c = c.log.invariant.goes_on.below
 
 pub overflow_add-page : goal.overflow_add-page
-overflow_add-page g c = omega (arith, (torn g (goal.at.overflow_add-page g c).In-Torn).below, c.requires.most, (g.met.F.Flash.shape c.args.flash.now).most)
+overflow_add-page g c = omega (arith, (torn g (goal.at.overflow_add-page g c).In-Torn).below, c.requires.pages.most, (g.met.F.Flash.shape c.args.flash.now).most)
 
 pub log-smaller-in-Torn : goal.log-smaller-in-Torn
 log-smaller-in-Torn g c = omega (arith, (torn g (goal.at.log-smaller-in-Torn g c).In-Torn).below)
 
 pub overflow_add-page-in-Kept : goal.overflow_add-page-in-Kept
-overflow_add-page-in-Kept g c = omega (arith, c.from.ensures, c.log.invariant.goes_on.below, c.requires.most, (g.met.F.Flash.shape c.args.flash.now).most)
+overflow_add-page-in-Kept g c = omega (arith, c.from.ensures, c.log.invariant.goes_on.below, c.requires.pages.most, (g.met.F.Flash.shape c.args.flash.now).most)
 
 pub overflow_add-page-in-Kept-2 : goal.overflow_add-page-in-Kept-2
 overflow_add-page-in-Kept-2 g c =
@@ -56,7 +56,7 @@ overflow_add-page-in-Kept-2 g c =
       c.from.ensures,
       c.byte_pages.ensures,
       c.from-in-Kept.ensures,
-      c.requires.most,
+      c.requires.pages.most,
       (g.met.F.Flash.shape c.args.flash.now).most,
     )
 
@@ -68,7 +68,7 @@ overflow_cast-page g c =
       c.from.ensures,
       c.byte_pages.ensures,
       c.from-in-Kept.ensures,
-      c.requires.most,
+      c.requires.pages.most,
       (g.met.F.Flash.shape c.args.flash.now).most,
     )
 
@@ -100,12 +100,12 @@ returns-in_err-blank_from-in-End-clause-cause g c = λ told.
 pub log-init : goal.log-init
 log-init g c = record {
   reads = no_reads (g.F.Flash.state c.args.flash.now);
-  goes_on = from_start c.args.used c.args.numbers.now (sector_at (g.F.Flash.state c.args.flash.now).image c.args.sector) c.requires.least;
+  goes_on = from_start c.args.used c.args.numbers.now (sector_at (g.F.Flash.state c.args.flash.now).image c.args.sector) c.requires.pages.least;
   operations = omega arith;
-  size = c.forget.ensures.size ∙ c.requires.size;
+  size = c.forget.ensures.size ∙ c.requires.table.size;
   seeks = λ k within. subst (λ (found : Option RecordPlace). Seeks c.args.used c.args.numbers.now (sector_at (g.F.Flash.state c.args.flash.now).image c.args.sector) (get_or c.args.numbers.now k 0) 2 found)
-      (sym (c.forget.ensures.none k (omega (arith, within, c.requires.size))))
-      (seek c.args.used c.args.numbers.now (sector_at (g.F.Flash.state c.args.flash.now).image c.args.sector) (get_or c.args.numbers.now k 0) c.requires.least);
+      (sym (c.forget.ensures.none k (omega (arith, within, c.requires.table.size))))
+      (seek c.args.used c.args.numbers.now (sector_at (g.F.Flash.state c.args.flash.now).image c.args.sector) (get_or c.args.numbers.now k 0) c.requires.pages.least);
 }
 
 pub returns-in_err-item-clause-end : goal.returns-in_err-item-clause-end

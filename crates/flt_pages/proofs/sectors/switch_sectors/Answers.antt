@@ -4,171 +4,129 @@ use Rattle.flt_sector_model.specs.Log.{log}
 use Rattle.flt_pages.specs.LogHolds.{LogHolds}
 use Rattle.flt_pages.specs.Live.{held_in, current_pages}
 use Rattle.flt_pages.specs.RecordPlace.{TellsPlaces}
-use Rattle.flt_pages.proofs.Recording.{never_ok, never_if, on_fault}
+use Rattle.flt_pages.proofs.Recording.{never_if, on_fault}
 use Rattle.flt_pages.proofs.Switching.{switch_unbegun, begun_blank, source_stays, keeps_inactive, active_blank, goes_over, table_over, activation_left}
 use Rattle.flt_pages.proofs.sectors.switch_sectors.Goals as goal
 
-pub returns-in_err-begin-clause-left : goal.returns-in_err-begin-clause-left
-returns-in_err-begin-clause-left g c =
-    switch_unbegun c.args.used c.args.numbers.now (g.F.Flash.state c.args.flash.now) (g.met.F.Flash.shape c.args.flash.now) c.args.sector c.args.sequence c.requires.sector c.requires.least (omega arith) c.requires.most
-    c.requires.current c.requires.sound c.requires.next (g.F.Flash.state c.begin.new.flash) c.in_err-begin.ensures.begins.torn
+pub returns-in_err-begin-clause-values : goal.returns-in_err-begin-clause-values
+returns-in_err-begin-clause-values g c =
+    switch_unbegun c.args.used c.args.numbers.now (g.F.Flash.state c.args.flash.now) (g.met.F.Flash.shape c.args.flash.now) c.args.sector c.args.sequence c.requires.can.source.log.pages.one_of_two c.requires.can.least (omega arith) c.requires.can.source.log.pages.most
+    c.requires.can.current c.requires.can.source.log.sound c.requires.can.next (g.F.Flash.state c.begin.new.flash) c.in_err-begin.ensures.begins.torn
 
-pub copy_blocks-requires-clause-blank : goal.copy_blocks-requires-clause-blank
-copy_blocks-requires-clause-blank g c =
-    begun_blank c.args.used c.args.numbers.now (g.F.Flash.state c.args.flash.now) (g.met.F.Flash.shape c.args.flash.now) c.args.sector c.args.sequence c.requires.sector c.requires.least (omega arith) c.requires.most
-    c.requires.current c.requires.sound c.requires.next (g.F.Flash.state c.begin.new.flash) (g.met.F.Flash.shape c.begin.new.flash) c.in_ok-begin.ensures.begins.done
+pub copy_blocks-requires-clause-other : goal.copy_blocks-requires-clause-other
+copy_blocks-requires-clause-other g c = record {
+  one_of_two = omega arith;
+  apart = omega (arith, c.requires.can.source.log.pages.one_of_two);
+  blank = begun_blank c.args.used c.args.numbers.now (g.F.Flash.state c.args.flash.now) (g.met.F.Flash.shape c.args.flash.now) c.args.sector c.args.sequence c.requires.can.source.log.pages.one_of_two c.requires.can.least (omega arith) c.requires.can.source.log.pages.most
+      c.requires.can.current c.requires.can.source.log.sound c.requires.can.next (g.F.Flash.state c.begin.new.flash) (g.met.F.Flash.shape c.begin.new.flash) c.in_ok-begin.ensures.begins.done;
+}
 
-pub returns-in_err-end-clause-left : goal.returns-in_err-end-clause-left
-returns-in_err-end-clause-left g c =
+pub returns-in_err-end-clause-values : goal.returns-in_err-end-clause-values
+returns-in_err-end-clause-values g c =
     let copies = c.in_err-end.ensures.copies in
-    keeps_inactive c.args.used c.args.numbers.now (g.F.Flash.state c.args.flash.now) (g.met.F.Flash.shape c.args.flash.now) c.args.sector c.args.sequence c.requires.sector c.requires.least (omega arith) c.requires.most
-    c.requires.current c.requires.sound c.requires.next (g.F.Flash.state c.begin.new.flash) (g.met.F.Flash.shape c.begin.new.flash) c.in_ok-begin.ensures.begins.done
-    (g.F.Flash.state c.copy_blocks.new.flash) copies.pages copies.on copies.gates
+    keeps_inactive c.args.used c.args.numbers.now (g.F.Flash.state c.args.flash.now) (g.met.F.Flash.shape c.args.flash.now) c.args.sector c.args.sequence c.requires.can.source.log.pages.one_of_two c.requires.can.least (omega arith) c.requires.can.source.log.pages.most
+    c.requires.can.current c.requires.can.source.log.sound c.requires.can.next (g.F.Flash.state c.begin.new.flash) (g.met.F.Flash.shape c.begin.new.flash) c.in_ok-begin.ensures.begins.done
+    (g.F.Flash.state c.copy_blocks.new.flash) copies.written.pages copies.written.on copies.written.gates
 
 pub activate-requires-clause-blank : goal.activate-requires-clause-blank
 activate-requires-clause-blank g c =
     let copies = c.in_ok-end.ensures.copies in
-    active_blank c.args.used c.args.numbers.now (g.F.Flash.state c.args.flash.now) (g.met.F.Flash.shape c.args.flash.now) c.args.sector c.args.sequence c.requires.sector c.requires.least (omega arith) c.requires.most
-    c.requires.current c.requires.sound c.requires.next (g.F.Flash.state c.begin.new.flash) (g.met.F.Flash.shape c.begin.new.flash) c.in_ok-begin.ensures.begins.done
-    (g.F.Flash.state c.copy_blocks.new.flash) copies.pages copies.on copies.gates
+    active_blank c.args.used c.args.numbers.now (g.F.Flash.state c.args.flash.now) (g.met.F.Flash.shape c.args.flash.now) c.args.sector c.args.sequence c.requires.can.source.log.pages.one_of_two c.requires.can.least (omega arith) c.requires.can.source.log.pages.most
+    c.requires.can.current c.requires.can.source.log.sound c.requires.can.next (g.F.Flash.state c.begin.new.flash) (g.met.F.Flash.shape c.begin.new.flash) c.in_ok-begin.ensures.begins.done
+    (g.F.Flash.state c.copy_blocks.new.flash) copies.written.pages copies.written.on copies.written.gates
 
-pub returns-in_err-activate-clause-left : goal.returns-in_err-activate-clause-left
-returns-in_err-activate-clause-left g c =
+pub returns-in_err-activate-clause-values : goal.returns-in_err-activate-clause-values
+returns-in_err-activate-clause-values g c =
     let copies = c.in_ok-end.ensures.copies in
-    let source = source_stays c.args.used c.args.numbers.now (g.F.Flash.state c.args.flash.now) (g.met.F.Flash.shape c.args.flash.now) c.args.sector c.args.sequence c.requires.sector c.requires.least (omega arith) c.requires.most
-    c.requires.current c.requires.sound c.requires.next (g.F.Flash.state c.begin.new.flash) (g.met.F.Flash.shape c.begin.new.flash) c.in_ok-begin.ensures.begins.done in
-    activation_left c.args.used c.args.numbers.now (g.F.Flash.state c.args.flash.now) (g.met.F.Flash.shape c.args.flash.now) c.args.sector c.args.sequence c.requires.sector c.requires.least (omega arith) c.requires.most
-    c.requires.current c.requires.sound c.requires.next (g.F.Flash.state c.begin.new.flash) (g.met.F.Flash.shape c.begin.new.flash) c.in_ok-begin.ensures.begins.done
-    (g.F.Flash.state c.copy_blocks.new.flash) copies.pages copies.on copies.gates c.in_ok-end.end
-    (subst (λ (p : List (List ℕ)). LogHolds c.args.used c.args.numbers.now copies.pages c.in_ok-end.end (held_in c.args.used c.args.numbers.now p)) source copies.done)
+    let source = source_stays c.args.used c.args.numbers.now (g.F.Flash.state c.args.flash.now) (g.met.F.Flash.shape c.args.flash.now) c.args.sector c.args.sequence c.requires.can.source.log.pages.one_of_two c.requires.can.least (omega arith) c.requires.can.source.log.pages.most
+    c.requires.can.current c.requires.can.source.log.sound c.requires.can.next (g.F.Flash.state c.begin.new.flash) (g.met.F.Flash.shape c.begin.new.flash) c.in_ok-begin.ensures.begins.done in
+    activation_left c.args.used c.args.numbers.now (g.F.Flash.state c.args.flash.now) (g.met.F.Flash.shape c.args.flash.now) c.args.sector c.args.sequence c.requires.can.source.log.pages.one_of_two c.requires.can.least (omega arith) c.requires.can.source.log.pages.most
+    c.requires.can.current c.requires.can.source.log.sound c.requires.can.next (g.F.Flash.state c.begin.new.flash) (g.met.F.Flash.shape c.begin.new.flash) c.in_ok-begin.ensures.begins.done
+    (g.F.Flash.state c.copy_blocks.new.flash) copies.written.pages copies.written.on copies.written.gates c.in_ok-end.end
+    (subst (λ (p : List (List ℕ)). LogHolds c.args.used c.args.numbers.now copies.written.pages c.in_ok-end.end (held_in c.args.used c.args.numbers.now p)) source copies.done)
     (g.F.Flash.state c.activate.new.flash) c.activate.result c.activate.ensures.appends
 
 pub returns-clause-switched : goal.returns-clause-switched
 returns-clause-switched g c =
     let copies = c.in_ok-end.ensures.copies in
-    let source = source_stays c.args.used c.args.numbers.now (g.F.Flash.state c.args.flash.now) (g.met.F.Flash.shape c.args.flash.now) c.args.sector c.args.sequence c.requires.sector c.requires.least (omega arith) c.requires.most
-    c.requires.current c.requires.sound c.requires.next (g.F.Flash.state c.begin.new.flash) (g.met.F.Flash.shape c.begin.new.flash) c.in_ok-begin.ensures.begins.done in
-    goes_over c.args.used c.args.numbers.now (g.F.Flash.state c.args.flash.now) (g.met.F.Flash.shape c.args.flash.now) c.args.sector c.args.sequence c.requires.sector c.requires.least (omega arith) c.requires.most
-    c.requires.current c.requires.sound c.requires.next (g.F.Flash.state c.begin.new.flash) (g.met.F.Flash.shape c.begin.new.flash) c.in_ok-begin.ensures.begins.done
-    (g.F.Flash.state c.copy_blocks.new.flash) copies.pages copies.on copies.gates c.in_ok-end.end
-    (subst (λ (p : List (List ℕ)). LogHolds c.args.used c.args.numbers.now copies.pages c.in_ok-end.end (held_in c.args.used c.args.numbers.now p)) source copies.done)
-    (g.F.Flash.state c.activate.new.flash) c.in_ok-activate.ensures.appends.done
+    let source = source_stays c.args.used c.args.numbers.now (g.F.Flash.state c.args.flash.now) (g.met.F.Flash.shape c.args.flash.now) c.args.sector c.args.sequence c.requires.can.source.log.pages.one_of_two c.requires.can.least (omega arith) c.requires.can.source.log.pages.most
+    c.requires.can.current c.requires.can.source.log.sound c.requires.can.next (g.F.Flash.state c.begin.new.flash) (g.met.F.Flash.shape c.begin.new.flash) c.in_ok-begin.ensures.begins.done in
+    let room = subst (λ (p : List (List ℕ)). c.in_ok-end.end ≤ 2 + current_pages c.args.used c.args.numbers.now p) source copies.room in
+    record {
+      stands = goes_over c.args.used c.args.numbers.now (g.F.Flash.state c.args.flash.now) (g.met.F.Flash.shape c.args.flash.now) c.args.sector c.args.sequence c.requires.can.source.log.pages.one_of_two c.requires.can.least (omega arith) c.requires.can.source.log.pages.most
+          c.requires.can.current c.requires.can.source.log.sound c.requires.can.next (g.F.Flash.state c.begin.new.flash) (g.met.F.Flash.shape c.begin.new.flash) c.in_ok-begin.ensures.begins.done
+          (g.F.Flash.state c.copy_blocks.new.flash) copies.written.pages copies.written.on copies.written.gates c.in_ok-end.end
+          (subst (λ (p : List (List ℕ)). LogHolds c.args.used c.args.numbers.now copies.written.pages c.in_ok-end.end (held_in c.args.used c.args.numbers.now p)) source copies.done)
+          (g.F.Flash.state c.activate.new.flash) c.in_ok-activate.ensures.appends.done;
+      table = table_over c.args.used c.args.numbers.now (g.F.Flash.state c.args.flash.now) (g.met.F.Flash.shape c.args.flash.now) c.args.sector c.args.sequence c.requires.can.source.log.pages.one_of_two c.requires.can.least (omega arith) c.requires.can.source.log.pages.most
+          c.requires.can.current c.requires.can.source.log.sound c.requires.can.next (g.F.Flash.state c.begin.new.flash) (g.met.F.Flash.shape c.begin.new.flash) c.in_ok-begin.ensures.begins.done
+          (g.F.Flash.state c.copy_blocks.new.flash) copies.written.pages copies.written.on copies.written.gates c.in_ok-end.end c.copy_blocks.new.places c.in_ok-end.ensures.table
+          (g.F.Flash.state c.activate.new.flash) c.in_ok-activate.ensures.appends.done;
+      moves = record {
+        room = room;
+        erases = record {
+          operations = omega (arith, c.in_ok-begin.ensures.begins.operations, c.in_ok-end.ensures.operations, room, c.in_ok-activate.ensures.appends.operation.operations);
+          wear = c.in_ok-activate.ensures.appends.wear ∙ copies.written.on.wear ∙ c.in_ok-begin.ensures.begins.wear;
+        };
+      };
+    }
 
-pub returns-clause-left : goal.returns-clause-left
-returns-clause-left g c =
+pub returns-clause-values : goal.returns-clause-values
+returns-clause-values g c =
     let copies = c.in_ok-end.ensures.copies in
-    let source = source_stays c.args.used c.args.numbers.now (g.F.Flash.state c.args.flash.now) (g.met.F.Flash.shape c.args.flash.now) c.args.sector c.args.sequence c.requires.sector c.requires.least (omega arith) c.requires.most
-    c.requires.current c.requires.sound c.requires.next (g.F.Flash.state c.begin.new.flash) (g.met.F.Flash.shape c.begin.new.flash) c.in_ok-begin.ensures.begins.done in
-    activation_left c.args.used c.args.numbers.now (g.F.Flash.state c.args.flash.now) (g.met.F.Flash.shape c.args.flash.now) c.args.sector c.args.sequence c.requires.sector c.requires.least (omega arith) c.requires.most
-    c.requires.current c.requires.sound c.requires.next (g.F.Flash.state c.begin.new.flash) (g.met.F.Flash.shape c.begin.new.flash) c.in_ok-begin.ensures.begins.done
-    (g.F.Flash.state c.copy_blocks.new.flash) copies.pages copies.on copies.gates c.in_ok-end.end
-    (subst (λ (p : List (List ℕ)). LogHolds c.args.used c.args.numbers.now copies.pages c.in_ok-end.end (held_in c.args.used c.args.numbers.now p)) source copies.done)
+    let source = source_stays c.args.used c.args.numbers.now (g.F.Flash.state c.args.flash.now) (g.met.F.Flash.shape c.args.flash.now) c.args.sector c.args.sequence c.requires.can.source.log.pages.one_of_two c.requires.can.least (omega arith) c.requires.can.source.log.pages.most
+    c.requires.can.current c.requires.can.source.log.sound c.requires.can.next (g.F.Flash.state c.begin.new.flash) (g.met.F.Flash.shape c.begin.new.flash) c.in_ok-begin.ensures.begins.done in
+    activation_left c.args.used c.args.numbers.now (g.F.Flash.state c.args.flash.now) (g.met.F.Flash.shape c.args.flash.now) c.args.sector c.args.sequence c.requires.can.source.log.pages.one_of_two c.requires.can.least (omega arith) c.requires.can.source.log.pages.most
+    c.requires.can.current c.requires.can.source.log.sound c.requires.can.next (g.F.Flash.state c.begin.new.flash) (g.met.F.Flash.shape c.begin.new.flash) c.in_ok-begin.ensures.begins.done
+    (g.F.Flash.state c.copy_blocks.new.flash) copies.written.pages copies.written.on copies.written.gates c.in_ok-end.end
+    (subst (λ (p : List (List ℕ)). LogHolds c.args.used c.args.numbers.now copies.written.pages c.in_ok-end.end (held_in c.args.used c.args.numbers.now p)) source copies.done)
     (g.F.Flash.state c.activate.new.flash) c.activate.result c.activate.ensures.appends
 
 pub returns-clause-runs : goal.returns-clause-runs
-returns-clause-runs g c = runs_on c.in_ok-begin.ensures.begins.runs (runs_on c.in_ok-end.ensures.copies.on.runs (one_run c.in_ok-activate.ensures.appends.operation))
+returns-clause-runs g c = runs_on c.in_ok-begin.ensures.begins.runs (runs_on c.in_ok-end.ensures.copies.written.on.runs (one_run c.in_ok-activate.ensures.appends.operation))
 
-pub copy_blocks-requires-clause-table : goal.copy_blocks-requires-clause-table
-copy_blocks-requires-clause-table g c =
-    let source = source_stays c.args.used c.args.numbers.now (g.F.Flash.state c.args.flash.now) (g.met.F.Flash.shape c.args.flash.now) c.args.sector c.args.sequence c.requires.sector c.requires.least (omega arith) c.requires.most
-    c.requires.current c.requires.sound c.requires.next (g.F.Flash.state c.begin.new.flash) (g.met.F.Flash.shape c.begin.new.flash) c.in_ok-begin.ensures.begins.done in
-    subst (λ (p : List (List ℕ)). TellsPlaces c.args.numbers.now c.args.places.now p c.args.used (held_in c.args.used c.args.numbers.now p)) (sym source) c.requires.table
-
-pub returns-clause-table : goal.returns-clause-table
-returns-clause-table g c =
-    let copies = c.in_ok-end.ensures.copies in
-    table_over c.args.used c.args.numbers.now (g.F.Flash.state c.args.flash.now) (g.met.F.Flash.shape c.args.flash.now) c.args.sector c.args.sequence c.requires.sector c.requires.least (omega arith) c.requires.most
-    c.requires.current c.requires.sound c.requires.next (g.F.Flash.state c.begin.new.flash) (g.met.F.Flash.shape c.begin.new.flash) c.in_ok-begin.ensures.begins.done
-    (g.F.Flash.state c.copy_blocks.new.flash) copies.pages copies.on copies.gates c.in_ok-end.end c.copy_blocks.new.places c.in_ok-end.ensures.table
-    (g.F.Flash.state c.activate.new.flash) c.in_ok-activate.ensures.appends.done
-
-pub returns-clause-erases : goal.returns-clause-erases
-returns-clause-erases g c =
-    let copies = c.in_ok-end.ensures.copies in
-    let source = source_stays c.args.used c.args.numbers.now (g.F.Flash.state c.args.flash.now) (g.met.F.Flash.shape c.args.flash.now) c.args.sector c.args.sequence c.requires.sector c.requires.least (omega arith) c.requires.most
-    c.requires.current c.requires.sound c.requires.next (g.F.Flash.state c.begin.new.flash) (g.met.F.Flash.shape c.begin.new.flash) c.in_ok-begin.ensures.begins.done in
-    let room = subst (λ (p : List (List ℕ)). c.in_ok-end.end ≤ 2 + current_pages c.args.used c.args.numbers.now p) source copies.room in
+pub copy_blocks-requires-clause-source : goal.copy_blocks-requires-clause-source
+copy_blocks-requires-clause-source g c =
+    let source = source_stays c.args.used c.args.numbers.now (g.F.Flash.state c.args.flash.now) (g.met.F.Flash.shape c.args.flash.now) c.args.sector c.args.sequence c.requires.can.source.log.pages.one_of_two c.requires.can.least (omega arith) c.requires.can.source.log.pages.most
+    c.requires.can.current c.requires.can.source.log.sound c.requires.can.next (g.F.Flash.state c.begin.new.flash) (g.met.F.Flash.shape c.begin.new.flash) c.in_ok-begin.ensures.begins.done in
     record {
-      operations = omega (arith, c.in_ok-begin.ensures.begins.operations, c.in_ok-end.ensures.operations, room, c.in_ok-activate.ensures.appends.operation.operations);
-      wear = c.in_ok-activate.ensures.appends.wear ∙ copies.on.wear ∙ c.in_ok-begin.ensures.begins.wear;
+      log = record {
+        pages = record { one_of_two = c.requires.can.source.log.pages.one_of_two; least = omega (arith, c.requires.can.least); most = omega (arith, c.in_ok-begin.ensures.begins.runs.pages, c.requires.can.source.log.pages.most) };
+        sound = subst (λ (p : List (List ℕ)). (log c.args.used c.args.numbers.now p).fault ≡ None) (sym source) c.requires.can.source.log.sound;
+      };
+      room = subst (λ (p : List (List ℕ)). 2 + current_pages c.args.used c.args.numbers.now p ≤ c.args.used) (sym source) c.requires.can.source.room;
+      table = c.requires.can.source.table;
+      tells = subst (λ (p : List (List ℕ)). TellsPlaces c.args.numbers.now c.args.places.now p c.args.used (held_in c.args.used c.args.numbers.now p)) (sym source) c.requires.can.source.tells;
     }
 
-pub copy_blocks-requires-clause-room : goal.copy_blocks-requires-clause-room
-copy_blocks-requires-clause-room g c =
-    let source = source_stays c.args.used c.args.numbers.now (g.F.Flash.state c.args.flash.now) (g.met.F.Flash.shape c.args.flash.now) c.args.sector c.args.sequence c.requires.sector c.requires.least (omega arith) c.requires.most
-    c.requires.current c.requires.sound c.requires.next (g.F.Flash.state c.begin.new.flash) (g.met.F.Flash.shape c.begin.new.flash) c.in_ok-begin.ensures.begins.done in
-    subst (λ (p : List (List ℕ)). 2 + current_pages c.args.used c.args.numbers.now p ≤ c.args.used) (sym source) c.requires.room
-
-pub copy_blocks-requires-clause-most : goal.copy_blocks-requires-clause-most
-copy_blocks-requires-clause-most g c = omega (arith, c.in_ok-begin.ensures.begins.runs.pages, c.requires.most)
-
-pub copy_blocks-requires-clause-sound : goal.copy_blocks-requires-clause-sound
-copy_blocks-requires-clause-sound g c =
-    let source = source_stays c.args.used c.args.numbers.now (g.F.Flash.state c.args.flash.now) (g.met.F.Flash.shape c.args.flash.now) c.args.sector c.args.sequence c.requires.sector c.requires.least (omega arith) c.requires.most
-    c.requires.current c.requires.sound c.requires.next (g.F.Flash.state c.begin.new.flash) (g.met.F.Flash.shape c.begin.new.flash) c.in_ok-begin.ensures.begins.done in
-    subst (λ (p : List (List ℕ)). (log c.args.used c.args.numbers.now p).fault ≡ None) (sym source) c.requires.sound
-
 pub activate-requires-clause-page : goal.activate-requires-clause-page
-activate-requires-clause-page g c = omega (arith, c.in_ok-end.ensures.copies.on.runs.pages, c.in_ok-begin.ensures.begins.runs.pages, c.requires.least, c.requires.most)
-
-pub returns-clause-room : goal.returns-clause-room
-returns-clause-room g c =
-    let source = source_stays c.args.used c.args.numbers.now (g.F.Flash.state c.args.flash.now) (g.met.F.Flash.shape c.args.flash.now) c.args.sector c.args.sequence c.requires.sector c.requires.least (omega arith) c.requires.most
-    c.requires.current c.requires.sound c.requires.next (g.F.Flash.state c.begin.new.flash) (g.met.F.Flash.shape c.begin.new.flash) c.in_ok-begin.ensures.begins.done in
-    subst (λ (p : List (List ℕ)). c.in_ok-end.end ≤ 2 + current_pages c.args.used c.args.numbers.now p) source c.in_ok-end.ensures.copies.room
+activate-requires-clause-page g c = omega (arith, c.in_ok-end.ensures.copies.written.on.runs.pages, c.in_ok-begin.ensures.begins.runs.pages, c.requires.can.least, c.requires.can.source.log.pages.most)
 
 pub returns-in_err-begin-clause-runs : goal.returns-in_err-begin-clause-runs
 returns-in_err-begin-clause-runs g c = c.in_err-begin.ensures.begins.runs
 
 pub returns-in_err-end-clause-runs : goal.returns-in_err-end-clause-runs
-returns-in_err-end-clause-runs g c = runs_on c.in_ok-begin.ensures.begins.runs c.in_err-end.ensures.copies.on.runs
+returns-in_err-end-clause-runs g c = runs_on c.in_ok-begin.ensures.begins.runs c.in_err-end.ensures.copies.written.on.runs
 
 pub returns-in_err-activate-clause-runs : goal.returns-in_err-activate-clause-runs
-returns-in_err-activate-clause-runs g c = runs_on c.in_ok-begin.ensures.begins.runs (runs_on c.in_ok-end.ensures.copies.on.runs (one_run c.in_err-activate.ensures.appends.operation))
+returns-in_err-activate-clause-runs g c = runs_on c.in_ok-begin.ensures.begins.runs (runs_on c.in_ok-end.ensures.copies.written.on.runs (one_run c.in_err-activate.ensures.appends.operation))
 
 pub returns-in_err-begin-clause-cause : goal.returns-in_err-begin-clause-cause
 returns-in_err-begin-clause-cause g c = on_fault c.from_residual.result c.in_err-begin.ensures.begins.cause
 
 pub returns-in_err-end-clause-cause : goal.returns-in_err-end-clause-cause
-returns-in_err-end-clause-cause g c = on_fault c.from_residual-in_err-end.result (omega (arith, c.in_err-end.ensures.copies.cause, c.in_ok-begin.ensures.begins.runs.counts))
+returns-in_err-end-clause-cause g c = on_fault c.from_residual-in_err-end.result (omega (arith, c.in_err-end.ensures.copies.written.cause, c.in_ok-begin.ensures.begins.runs.counts))
 
 pub returns-in_err-activate-clause-cause : goal.returns-in_err-activate-clause-cause
 returns-in_err-activate-clause-cause g c =
     on_fault c.from_residual-in_err-activate.result
-    (omega (arith, c.in_err-activate.ensures.appends.operation.cause, c.in_ok-end.ensures.copies.on.runs.counts, c.in_ok-begin.ensures.begins.runs.counts))
-
-pub returns-in_err-begin-clause-table : goal.returns-in_err-begin-clause-table
-returns-in_err-begin-clause-table g c = never_if _ c.from_residual.result c.from_residual.ensures.0
-
-pub returns-in_err-begin-clause-room : goal.returns-in_err-begin-clause-room
-returns-in_err-begin-clause-room g c = never_if _ c.from_residual.result c.from_residual.ensures.0
+    (omega (arith, c.in_err-activate.ensures.appends.operation.cause, c.in_ok-end.ensures.copies.written.on.runs.counts, c.in_ok-begin.ensures.begins.runs.counts))
 
 pub returns-in_err-begin-clause-switched : goal.returns-in_err-begin-clause-switched
 returns-in_err-begin-clause-switched g c = never_if _ c.from_residual.result c.from_residual.ensures.0
 
-pub returns-in_err-begin-clause-erases : goal.returns-in_err-begin-clause-erases
-returns-in_err-begin-clause-erases g c = never_ok _ c.from_residual.result c.from_residual.ensures.0
-
-pub returns-in_err-end-clause-table : goal.returns-in_err-end-clause-table
-returns-in_err-end-clause-table g c = never_if _ c.from_residual-in_err-end.result c.from_residual-in_err-end.ensures.0
-
-pub returns-in_err-end-clause-room : goal.returns-in_err-end-clause-room
-returns-in_err-end-clause-room g c = never_if _ c.from_residual-in_err-end.result c.from_residual-in_err-end.ensures.0
-
 pub returns-in_err-end-clause-switched : goal.returns-in_err-end-clause-switched
 returns-in_err-end-clause-switched g c = never_if _ c.from_residual-in_err-end.result c.from_residual-in_err-end.ensures.0
 
-pub returns-in_err-end-clause-erases : goal.returns-in_err-end-clause-erases
-returns-in_err-end-clause-erases g c = never_ok _ c.from_residual-in_err-end.result c.from_residual-in_err-end.ensures.0
-
-pub returns-in_err-activate-clause-table : goal.returns-in_err-activate-clause-table
-returns-in_err-activate-clause-table g c = never_if _ c.from_residual-in_err-activate.result c.from_residual-in_err-activate.ensures.0
-
-pub returns-in_err-activate-clause-room : goal.returns-in_err-activate-clause-room
-returns-in_err-activate-clause-room g c = never_if _ c.from_residual-in_err-activate.result c.from_residual-in_err-activate.ensures.0
-
 pub returns-in_err-activate-clause-switched : goal.returns-in_err-activate-clause-switched
 returns-in_err-activate-clause-switched g c = never_if _ c.from_residual-in_err-activate.result c.from_residual-in_err-activate.ensures.0
-
-pub returns-in_err-activate-clause-erases : goal.returns-in_err-activate-clause-erases
-returns-in_err-activate-clause-erases g c = never_ok _ c.from_residual-in_err-activate.result c.from_residual-in_err-activate.ensures.0
