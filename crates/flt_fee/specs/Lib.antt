@@ -3,4 +3,5 @@ pub mod Mounted
 pub mod Refusal
 pub mod Costs
 pub mod Wear
+pub mod Stored
 pub mod Examples

@@ -1,21 +1,20 @@
 //! The driver over two sectors.
-ghost use Rattle.std.specs.Prelude.{◌≡◌, ◌≢◌, ◌+◌, ◌-◌, ◌*◌, ◌^◌, ◌<◌, ◌≤◌, ℕ, length, true, false, Contains};
-ghost use Rattle.std.specs.Prelude.{IsFalse, IsTrue, IfOk, IfErr, IfSome, OnOk, OnErr, IsErrOf, Ok, Some, None};
+ghost use Rattle.std.specs.Prelude.{◌≡◌, ◌≢◌, ◌+◌, ◌-◌, ◌^◌, ◌<◌, ◌≤◌, length, true, false, Contains};
+ghost use Rattle.std.specs.Prelude.{IsFalse, IfOk, IfErr, IfSome, OnOk, OnErr, Ok, Some, None};
 ghost use Rattle.std.specs.List.{AllPairs};
 ghost use Rattle.std.proofs.Props.{props};
 ghost use Rattle.flt_flash.specs.Content.{invalid, bytes as holding};
 ghost use Rattle.flt_flash.specs.Image.{sector_at};
-ghost use Rattle.flt_flash.specs.Blocks.{byte_pages, device_of, live_pages, record_pages, IsFull};
-ghost use Rattle.flt_flash.specs.Calls.{Calls, CountsCallOf, CountsMount, Changes, Costs, MountCosts, ReadsAlone, ReadsContent, NoFault, NeverFull, ReadCosts, SameSpent, SameValues, Settles};
+ghost use Rattle.flt_flash.specs.Blocks.{byte_pages, device_of, live_pages, record_pages};
+ghost use Rattle.flt_flash.specs.Calls.{Calls, CountsCallOf, CountsMount, Changes, Costs, MountCosts, ReadsAlone, ReadsContent, NeverFull, ReadCosts, SameSpent, SameValues, Settles};
 ghost use Rattle.flt_flash.specs.declared.blocks.BlockFault.TheVariants.{Full, SequenceSpent};
-ghost use Rattle.flt_code.specs.Word.{is_length};
 ghost use Rattle.flt_sector_model.specs.Blocks.{current, block_value};
 ghost use Rattle.flt_pages.specs.LogHolds.{asked_of};
-ghost use Rattle.flt_pages.specs.Switch.{Erases};
+ghost use Rattle.flt_pages.specs.Switch.{MovesRecords};
 ghost use Rattle.flt_pages.specs.RecordPlace.{IsAt, TellsPlaces};
-ghost use Rattle.flt_fee.specs.Costs.{SpendsAtMost, MakesRoom, StoreCosts, Stores, UnlessFailed};
+ghost use Rattle.flt_fee.specs.Costs.{SpendsAtMost, MakesRoom};
 ghost use Rattle.flt_fee.specs.Mounted.{IsMounted};
-ghost use Rattle.flt_fee.specs.Refusal.{refusal, AnswersBy, KeepsStuck};
+ghost use Rattle.flt_fee.specs.Refusal.{KeepsStuck};
 ghost use Rattle.flt_fee.specs.Wear.{StaysEven, UnlessFlash};
 
 use flt_flash::{Arm, Bench, BlockFault, Blocks, Flash, Found, Refused, Tally};
@@ -78,20 +77,17 @@ pub struct Fee<F: Flash> {
 }
 
 impl<F: Flash> Fee<F> {
-    ghost use Rattle.flt_fee.specs.Fee.{is_past, state_by, state_of, uncounted_of};
+    ghost use Rattle.flt_fee.specs.Fee.{state_by, state_of, uncounted_of};
+    ghost use Rattle.flt_fee.specs.Stored.{CanBeStored, IsPartOfCall, RefusesRecord, StoresRecord};
 
     /// Appends a record behind the log, where it fits.
     fn append(&mut self, block: u16, bytes: &[u8], valid: bool) -> Result<(), BlockFault>
         requires not_stale { IsFalse (uncounted_of F.state self.old).is_stale }
-        requires number { Contains (uncounted_of F.state self.old).numbers block }
-        requires most { length bytes.now ≤ 128 }
-        requires length { is_length valid (length bytes.now) ≡ true }
+        requires record { CanBeStored (uncounted_of F.state self.old).numbers block (length bytes.now) valid }
         requires room { self.old.end + 2 + byte_pages (length bytes.now) ≤ self.old.used }
         ensures changes { Changes (uncounted_of F.state self.old) (uncounted_of F.state self.new) block (asked_of valid bytes.now) (length bytes.now) result }
-        ensures calls { Calls (uncounted_of F.state self.old) (uncounted_of F.state self.new) result }
-        ensures count { self.new.tally ≡ self.old.tally }
+        ensures part { IsPartOfCall F.state self.old self.new result }
         ensures never_full { NeverFull result }
-        ensures stale { Settles result (uncounted_of F.state self.new) }
         ensures spends { OnOk result (SpendsAtMost (record_pages (length bytes.now)) (F.state self.old.flash) (F.state self.new.flash)) }
         ensures even { StaysEven self.old.used (F.state self.old.flash) (F.state self.new.flash) }
     {
@@ -196,14 +192,11 @@ impl<F: Flash> Fee<F> {
         requires not_stale { IsFalse (uncounted_of F.state self.old).is_stale }
         requires next { self.old.sequence + 1 < 2 ^ 32 }
         requires room { 2 + live_pages (uncounted_of F.state self.old) ≤ self.old.used }
-        ensures room { OnOk result (self.new.end ≤ 2 + live_pages (uncounted_of F.state self.old)) }
-        ensures erases { OnOk result (Erases (3 + 2 * live_pages (uncounted_of F.state self.old)) (1 - self.old.sector) (F.state self.old.flash)
+        ensures moves { OnOk result (MovesRecords (live_pages (uncounted_of F.state self.old)) self.old.sector self.new.end (F.state self.old.flash)
             (F.state self.new.flash)) }
         ensures values { SameValues (uncounted_of F.state self.old) (uncounted_of F.state self.new) }
-        ensures calls { Calls (uncounted_of F.state self.old) (uncounted_of F.state self.new) result }
-        ensures count { self.new.tally ≡ self.old.tally }
+        ensures part { IsPartOfCall F.state self.old self.new result }
         ensures never_full { NeverFull result }
-        ensures stale { Settles result (uncounted_of F.state self.new) }
         ensures even { UnlessFlash result (StaysEven self.old.used (F.state self.old.flash) (F.state self.new.flash)) }
     {
         self.is_stale = true;
@@ -226,17 +219,13 @@ impl<F: Flash> Fee<F> {
     fn make_room(&mut self, block: u16, size: u16) -> Result<(), BlockFault>
         requires not_stale { IsFalse (uncounted_of F.state self.old).is_stale }
         requires most { size ≤ 128 }
-        ensures answers { AnswersBy (refusal (uncounted_of F.state self.old) block size) result }
         ensures room { OnOk result (self.new.end + record_pages size ≤ self.new.used) }
         ensures made { OnOk result (MakesRoom self.old.used self.old.end (live_pages (uncounted_of F.state self.old)) size self.old.sector
             (F.state self.old.flash) (F.state self.new.flash)) }
-        ensures refused { UnlessFailed result (OnErr result (F.state self.new.flash ≡ F.state self.old.flash)) }
-        ensures full { (live needed : ℕ) → IsErrOf result (Full live needed) → IsFull (uncounted_of F.state self.new) size live needed }
-        ensures spent { IsErrOf result SequenceSpent → IsTrue ((uncounted_of F.state self.new).is_stuck block size) }
+        ensures refuses { RefusesRecord (uncounted_of F.state self.old) (uncounted_of F.state self.new) (F.state self.old.flash) (F.state self.new.flash) block
+            size result }
         ensures values { SameValues (uncounted_of F.state self.old) (uncounted_of F.state self.new) }
-        ensures calls { Calls (uncounted_of F.state self.old) (uncounted_of F.state self.new) result }
-        ensures count { self.new.tally ≡ self.old.tally }
-        ensures stale { Settles result (uncounted_of F.state self.new) }
+        ensures part { IsPartOfCall F.state self.old self.new result }
         ensures even { UnlessFlash result (StaysEven self.old.used (F.state self.old.flash) (F.state self.new.flash)) }
     {
         let needed = 2 + byte_pages(size);
@@ -255,18 +244,10 @@ impl<F: Flash> Fee<F> {
 
     /// Gives a block these bytes, or makes it invalid.
     fn put(&mut self, block: u16, bytes: &[u8], valid: bool) -> Result<(), BlockFault>
-        requires number { Contains (uncounted_of F.state self.old).numbers block }
-        requires most { length bytes.now ≤ 128 }
-        requires length { is_length valid (length bytes.now) ≡ true }
+        requires record { CanBeStored (uncounted_of F.state self.old).numbers block (length bytes.now) valid }
         ensures changes { Changes (uncounted_of F.state self.old) (uncounted_of F.state self.new) block (asked_of valid bytes.now) (length bytes.now) result }
-        ensures calls { Calls (uncounted_of F.state self.old) (uncounted_of F.state self.new) result }
-        ensures count { self.new.tally ≡ self.old.tally }
-        ensures stale { Settles result (uncounted_of F.state self.new) }
-        ensures answers { AnswersBy (refusal (uncounted_of F.state self.old) block (length bytes.now)) result }
-        ensures stores { IsFalse (uncounted_of F.state self.old).is_stale → NoFault (uncounted_of F.state self.old) (uncounted_of F.state self.new)
-            → StoreCosts
-            (is_past self.old.used self.old.numbers (F.state self.old.flash).image (length bytes.now) (current self.old.used (F.state self.old.flash).image))
-            (uncounted_of F.state self.old) (uncounted_of F.state self.new) (length bytes.now) }
+        ensures part { IsPartOfCall F.state self.old self.new result }
+        ensures stored { StoresRecord self.old.used (uncounted_of F.state self.old) (uncounted_of F.state self.new) block (length bytes.now) result }
         ensures costs { Costs (uncounted_of F.state self.old) (uncounted_of F.state self.new) (length bytes.now) }
         ensures even { UnlessFlash result (StaysEven self.old.used (F.state self.old.flash) (F.state self.new.flash)) }
     {
@@ -345,8 +326,9 @@ impl<F: Flash> Fee<F> {
 
 impl<F: Bench> Blocks for Fee<F> {
     ghost use Rattle.flt_pages.proofs.Short.{value_is_short};
-    ghost use Rattle.flt_fee.specs.Fee.{is_past, state_of};
+    ghost use Rattle.flt_fee.specs.Fee.{state_of};
     ghost use Rattle.flt_fee.specs.Refusal.{first_holds};
+    ghost use Rattle.flt_fee.specs.Stored.{StoresRecord, WearsEvenly};
 
     ghost state = { state_of F.state };
 
@@ -368,8 +350,7 @@ impl<F: Bench> Blocks for Fee<F> {
         ensures costs { MountCosts (state_of F.state self.old) (state_of F.state self.new) }
 
         // The sectors wear evenly.
-        ensures even { NoFault (state_of F.state self.old) (state_of F.state self.new)
-            → StaysEven self.old.used (F.state self.old.flash) (F.state self.new.flash) }
+        ensures even { WearsEvenly F.state self.old self.new }
     {
         self.tally.count();
         self.look()
@@ -385,18 +366,11 @@ impl<F: Bench> Blocks for Fee<F> {
         ensures stale { Settles result (state_of F.state self.new) }
         ensures costs { Costs (state_of F.state self.old) (state_of F.state self.new) (length bytes.now) }
 
-        // It costs the pages of its record where that fits behind the log, and else a switch of the sectors with one erase too.
-        ensures stores { IsFalse (state_of F.state self.old).is_stale → NoFault (state_of F.state self.old) (state_of F.state self.new)
-            → StoreCosts
-            (is_past self.old.used self.old.numbers (F.state self.old.flash).image (length bytes.now) (current self.old.used (F.state self.old.flash).image))
-            (state_of F.state self.old) (state_of F.state self.new) (length bytes.now) }
-
-        // It is refused exactly where there is no room for it, or else no sequence number for a switch.
-        ensures answers { AnswersBy (refusal (state_of F.state self.old) block (length bytes.now)) result }
+        // It is refused exactly where there is no room or no number for it, and costs no switch where its record fits behind the log.
+        ensures stored { StoresRecord self.old.used (state_of F.state self.old) (state_of F.state self.new) block (length bytes.now) result }
 
         // The sectors wear evenly.
-        ensures even { NoFault (state_of F.state self.old) (state_of F.state self.new)
-            → StaysEven self.old.used (F.state self.old.flash) (F.state self.new.flash) }
+        ensures even { WearsEvenly F.state self.old self.new }
     {
         self.tally.count();
         let answer = self.put(block, bytes, true);
@@ -415,8 +389,7 @@ impl<F: Bench> Blocks for Fee<F> {
         ensures costs { ReadCosts (state_of F.state self.old) (state_of F.state self.new) block }
 
         // The sectors wear evenly.
-        ensures even { NoFault (state_of F.state self.old) (state_of F.state self.new)
-            → StaysEven self.old.used (F.state self.old.flash) (F.state self.new.flash) }
+        ensures even { WearsEvenly F.state self.old self.new }
     {
         self.tally.count();
         let answer = self.get(block, out);
@@ -440,18 +413,11 @@ impl<F: Bench> Blocks for Fee<F> {
         ensures stale { Settles result (state_of F.state self.new) }
         ensures costs { Costs (state_of F.state self.old) (state_of F.state self.new) 0 }
 
-        // It costs the pages of its record where that fits behind the log, and else a switch of the sectors with one erase too.
-        ensures stores { IsFalse (state_of F.state self.old).is_stale → NoFault (state_of F.state self.old) (state_of F.state self.new)
-            → StoreCosts
-            (is_past self.old.used self.old.numbers (F.state self.old.flash).image 0 (current self.old.used (F.state self.old.flash).image))
-            (state_of F.state self.old) (state_of F.state self.new) 0 }
-
-        // It is refused exactly where there is no room for it, or else no sequence number for a switch.
-        ensures answers { AnswersBy (refusal (state_of F.state self.old) block 0) result }
+        // It is refused exactly where there is no room or no number for it, and costs no switch where its record fits behind the log.
+        ensures stored { StoresRecord self.old.used (state_of F.state self.old) (state_of F.state self.new) block 0 result }
 
         // The sectors wear evenly.
-        ensures even { NoFault (state_of F.state self.old) (state_of F.state self.new)
-            → StaysEven self.old.used (F.state self.old.flash) (F.state self.new.flash) }
+        ensures even { WearsEvenly F.state self.old self.new }
     {
         self.tally.count();
         let answer = self.put(block, &[], false);

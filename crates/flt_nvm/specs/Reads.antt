@@ -1,15 +1,15 @@
 -- What reads of blocks make of a driver, and when one answers that the flash failed it.
-use Rattle.std.specs.Prelude.{◌≡◌, ◌⊎◌, ◌+◌, ◌≢◌, ℕ, List, Some, Result, IsFalse, IfOk, OnErr, IsErrOf}
+use Rattle.std.specs.Prelude.{◌≡◌, ◌⊎◌, ◌+◌, ◌≢◌, ℕ, List, Option, Some, None, Result, IsFalse, IfOk, OnOk, OnErr, IsErrOf}
 use Rattle.flt_flash.specs.Content.{Content, size_of}
 use Rattle.flt_flash.specs.State.{HasRisenBy}
 use Rattle.flt_flash.specs.Blocks.{BlocksState, byte_pages}
-use Rattle.flt_flash.specs.Calls.{CostsAtMost, NoFault, ReadCosts, ReadsAlone}
+use Rattle.flt_flash.specs.Calls.{CostsAtMost, Follows, NeverFull, NoFault, ReadCosts, ReadsAlone, SameImage, SameSpent, SameValues}
 use Rattle.flt_flash.specs.declared.blocks.BlockFault.{BlockFault}
-use Rattle.flt_flash.specs.declared.blocks.BlockFault.TheVariants.{Flash}
+use Rattle.flt_flash.specs.declared.blocks.BlockFault.TheVariants.{Flash, Damaged}
 use Rattle.flt_nvm.specs.declared.got.Got.{Got}
 use Rattle.flt_nvm.specs.Table.{number_of}
 use Rattle.flt_nvm.specs.Tries.{Tries, Looks}
-use Rattle.flt_nvm.specs.Leaves.{FlashTakesThree, GivesInAJob, GotOf, GotOfBoth, HasFailedCopy, HasNoBytes, NamesNumber}
+use Rattle.flt_nvm.specs.Leaves.{FlashTakesThree, GivesInAJob, GotOf, GotOfBoth, GotOfSecond, HasFailedCopy, HasNoBytes, NamesNumber}
 
 -- One job that reads a number, whatever it answers.
 abbrev pub LooksInAJob : {T : Type 0} → ℕ → BlocksState → BlocksState → Result T BlockFault → Type 0
@@ -60,6 +60,30 @@ pub record ReadsNumber (copy number : ℕ) (before after : BlocksState) (out_bef
   pub costs : ReadCosts before after number
   pub three : FlashTakesThree before after result
   pub named : NamesNumber number before after result
+
+-- Reads that change no block, as those of `ReadsAlone`, but for the cause of Flash.
+pub record OnlyLooks {T : Type 0} (before after : BlocksState) (result : Result T BlockFault) : Type 0 where
+  pub values : SameValues before after
+  pub follows : Follows before after
+  pub damaged : (sector page : ℕ) → IsErrOf result (Damaged sector page) → (before.damage ≡ Some (sector, page)) × IsFalse before.has_mounted
+  pub refuses_damage : OnOk result (before.damage ≡ None)
+  pub never_full : NeverFull result
+  pub spent : SameSpent before after
+  pub settled : OnOk result (IsFalse after.is_stale)
+  pub stale : IsFalse before.is_stale → IsFalse after.is_stale
+  pub image : IsFalse before.is_stale → SameImage before after
+
+-- A job that reads the second copy: its bytes are the answer, or where it has none what the first copy gave, or Flash where that could not be read.
+pub record ReadsSecond (id : ℕ) (before after : BlocksState) (first : Option Got) (out_before out_after : List ℕ) (result : Result Got BlockFault) : Type 0 where
+  pub read : Result Got BlockFault
+  pub job : LooksInAJob (number_of id 1) before after read
+  pub got : IfOk result (λ got. GotOfSecond (before.value (number_of id 1)) first got out_before out_after)
+  pub nothing : OnErr result (out_after ≡ out_before)
+  pub looks : OnlyLooks before after result
+  pub costs : ReadCosts before after (number_of id 1)
+  pub unread : IsErrOf result Flash → IsUnread (number_of id 1) before after ⊎ ((first ≡ None) × HasNoBytes (before.value (number_of id 1)))
+  -- The last call that failed is the one before, or of the second copy.
+  pub named : (after.last_failed ≡ before.last_failed) ⊎ (after.last_failed ≡ Some (number_of id 1))
 
 -- One job or two that read both copies.
 pub record ReadsCopies (id : ℕ) (before after : BlocksState) (out_before out_after : List ℕ) (result : Result Got BlockFault) : Type 0 where

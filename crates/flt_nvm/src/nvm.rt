@@ -32,15 +32,12 @@ fn holds(got: Got, out: &[u8; 128], bytes: &[u8]) -> bool
 }
 
 impl<B: Blocks + Drop> Nvm<B> {
-    ghost use Rattle.std.specs.Prelude.{◌<◌, ◌-◌, ◌⊎◌, Some, None, Result, Contains, IsFalse, IsErrOf, IfOk, OnOk, OnErr};
+    ghost use Rattle.std.specs.Prelude.{◌<◌, ◌-◌, Contains, IsFalse};
     ghost use Rattle.flt_flash.specs.State.{CanArm};
-    ghost use Rattle.flt_flash.specs.Calls.{ArmsDriver, Follows, NeverFull, PowersUpDriver, ReadCosts, SameImage, SameSpent, SameValues, found_of};
-    ghost use Rattle.flt_flash.specs.declared.blocks.BlockFault.{BlockFault};
-    ghost use Rattle.flt_flash.specs.declared.blocks.BlockFault.TheVariants.{Flash};
-    ghost use Rattle.flt_nvm.specs.declared.got.Got.{Got};
+    ghost use Rattle.flt_flash.specs.Calls.{ArmsDriver, PowersUpDriver, found_of};
     ghost use Rattle.flt_nvm.specs.Table.{number_of, HasIndex, HasPlace, FitsBlock};
-    ghost use Rattle.flt_nvm.specs.Leaves.{GivesCopies, GotOfSecond, HasNoBytes, MountsInAJob};
-    ghost use Rattle.flt_nvm.specs.Reads.{IsUnread, LooksInAJob, ReadsCopies};
+    ghost use Rattle.flt_nvm.specs.Leaves.{GivesCopies, MountsInAJob};
+    ghost use Rattle.flt_nvm.specs.Reads.{ReadsCopies, ReadsSecond};
     ghost use Rattle.flt_nvm.specs.Blocks.{GivesBlock, ReadsBlock, ReadsCopy, Repairs};
     ghost use Rattle.flt_nvm.specs.Driver.{driver_of, table_of};
 
@@ -161,23 +158,7 @@ impl<B: Blocks + Drop> Nvm<B> {
         first: Option<Got>,
     ) -> Result<Got, BlockFault>
         requires { IsRedundant (table_of self.old) id }
-        ensures got { IfOk result (λ got. GotOfSecond ((driver_of self.old).value (number_of id 1)) first got out.old out.new) }
-        ensures nothing { OnErr result (out.new ≡ out.old) }
-        ensures values { SameValues (driver_of self.old) (driver_of self.new) }
-        ensures follows { Follows (driver_of self.old) (driver_of self.new) }
-        ensures flash { IsErrOf result Flash → IsUnread (number_of id 1) (driver_of self.old) (driver_of self.new)
-            ⊎ ((first ≡ None) × HasNoBytes ((driver_of self.old).value (number_of id 1))) }
-        ensures named { ((driver_of self.new).last_failed ≡ (driver_of self.old).last_failed) ⊎ ((driver_of self.new).last_failed ≡ Some (number_of id 1)) }
-        ensures damaged { (sector page : ℕ) → IsErrOf result (BlockFault.Damaged sector page)
-            → ((driver_of self.old).damage ≡ Some (sector, page)) × IsFalse (driver_of self.old).has_mounted }
-        ensures refuses_damage { OnOk result ((driver_of self.old).damage ≡ None) }
-        ensures never_full { NeverFull result }
-        ensures spent { SameSpent (driver_of self.old) (driver_of self.new) }
-        ensures not_stale { OnOk result (IsFalse (driver_of self.new).is_stale) }
-        ensures stale { IsFalse (driver_of self.old).is_stale → IsFalse (driver_of self.new).is_stale }
-        ensures image { IsFalse (driver_of self.old).is_stale → SameImage (driver_of self.old) (driver_of self.new) }
-        ensures costs { ReadCosts (driver_of self.old) (driver_of self.new) (number_of id 1) }
-        ensures job { (read : Result Got BlockFault) × LooksInAJob (number_of id 1) (driver_of self.old) (driver_of self.new) read }
+        ensures second { ReadsSecond id (driver_of self.old) (driver_of self.new) first out.old out.new result }
         ensures table { table_of self.new ≡ table_of self.old }
     {
         match self.read_copy(id, 2, out)? {

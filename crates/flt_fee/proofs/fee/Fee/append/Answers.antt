@@ -1,4 +1,4 @@
-use Rattle.std.proofs.Common.{◌≡◌, ◌+◌, ◌<◌, ℕ, true, List, length, sym, subst, arith, ◌∙◌, refl, ap, get_or, Option, Some, None}
+use Rattle.std.proofs.Common.{◌≡◌, ◌+◌, ◌<◌, ℕ, true, List, length, sym, subst, arith, rules, ◌∙◌, refl, ap, get_or, Option, Some, None}
 use Rattle.std.specs.Prelude.{◌==◌, ◌&&◌, if◌then◌else◌}
 use Rattle.std.proofs.lemmas.List.{with_items_is}
 use Rattle.flt_flash.specs.Content.{Content}
@@ -32,8 +32,8 @@ goes g c =
       within = self.sectors;
       begins = omega (arith, self.least);
       stands = mounted_stands self.is_stale self.has_mounted c.requires.not_stale self.used self.numbers (g.F.Flash.state self.flash).image self.sector self.sequence self.end self.mounted;
-      proper = (omega arith, omega arith, omega arith, c.requires.length);
-      among = is_among self.numbers c.args.block c.requires.number;
+      proper = (omega arith, omega arith, omega arith, c.requires.record.kind);
+      among = is_among self.numbers c.args.block c.requires.record.number;
       room = c.requires.room;
     }
 
@@ -42,11 +42,15 @@ returns-in_err-append_record-clause-changes g c =
     let self = c.args.self.now in
     failed_changes (goes g (goal.at.returns-in_err-append_record-clause-changes g c).After-append_record) c.in_err-append_record.ensures.records self.is_stale self.has_mounted c.from_residual.result (grind arith)
 
-pub returns-in_err-append_record-clause-calls : goal.returns-in_err-append_record-clause-calls
-returns-in_err-append_record-clause-calls g c =
+pub returns-in_err-append_record-clause-part : goal.returns-in_err-append_record-clause-part
+returns-in_err-append_record-clause-part g c =
     let self = c.args.self.now in
     let records = c.in_err-append_record.ensures.records in
-    failed_calls (goes g (goal.at.returns-in_err-append_record-clause-calls g c).After-append_record) records self.is_stale self.has_mounted c.from_residual.result (grind arith) records.cause
+    record {
+      calls = failed_calls (goes g (goal.at.returns-in_err-append_record-clause-part g c).After-append_record) records self.is_stale self.has_mounted c.from_residual.result (grind arith) records.cause;
+      uncounted = search rules;
+      settles = search rules;
+    }
 
 pub invariant_of-self-2 : goal.invariant_of-self-2
 invariant_of-self-2 g c =
@@ -99,5 +103,9 @@ returns-clause-even g c =
     let records = c.in_ok-append_record.ensures.records in
     even_same c.args.self.now.used (g.F.Flash.state c.args.self.now.flash) (g.F.Flash.state c.append_record.new.flash) (current_stays (goes g (goal.at.returns-clause-even g c).After-append_record) records) records.on.wear
 
-pub returns-clause-calls : goal.returns-clause-calls
-returns-clause-calls g c = done_calls (goes g (goal.at.returns-clause-calls g c).After-append_record) c.in_ok-append_record.ensures.records c.args.self.now.is_stale c.args.self.now.has_mounted refl
+pub returns-clause-part : goal.returns-clause-part
+returns-clause-part g c = record {
+  calls = done_calls (goes g (goal.at.returns-clause-part g c).After-append_record) c.in_ok-append_record.ensures.records c.args.self.now.is_stale c.args.self.now.has_mounted refl;
+  uncounted = search rules;
+  settles = search rules;
+}
