@@ -2,7 +2,7 @@
 use Rattle.std.specs.Prelude.{◌≡◌, ◌≤◌, ℕ, Bool, true, List, Result, Contains, IsFalse, IsTrue, IsErrOf, OnErr}
 use Rattle.flt_flash.specs.State.{FlashState}
 use Rattle.flt_flash.specs.Blocks.{BlocksState, IsFull}
-use Rattle.flt_flash.specs.Calls.{Calls, NoFault, Settles}
+use Rattle.flt_flash.specs.Calls.{Calls, NeverFull, NoFault, SameSpent, SameValues, Settles}
 use Rattle.flt_flash.specs.declared.blocks.BlockFault.{BlockFault}
 use Rattle.flt_flash.specs.declared.blocks.BlockFault.TheVariants.{Full, SequenceSpent}
 use Rattle.flt_code.specs.Word.{is_length}
@@ -10,7 +10,7 @@ use Rattle.flt_sector_model.specs.Blocks.{current}
 use Rattle.flt_fee.specs.declared.fee.Fee.{Fee}
 use Rattle.flt_fee.specs.Costs.{StoreCosts, UnlessFailed}
 use Rattle.flt_fee.specs.Fee.{is_past, state_of, uncounted_of}
-use Rattle.flt_fee.specs.Refusal.{refusal, AnswersBy}
+use Rattle.flt_fee.specs.Refusal.{refusal, AnswersBy, KeepsStuck}
 use Rattle.flt_fee.specs.Wear.{StaysEven}
 
 -- A record of so many bytes can be stored: its block is one of the driver's, and a valid one has 1 to 128 bytes, an invalid one none.
@@ -38,8 +38,16 @@ pub record StoresRecord (used : ℕ) (before after : BlocksState) (block size : 
 abbrev pub WearsEvenly : {F : Type 0} {g : _} → (F → FlashState) → Fee F g → Fee F g → Type 0
 WearsEvenly state before after = NoFault (state_of state before) (state_of state after) → StaysEven before.used (state before.flash) (state after.flash)
 
--- A part of a write or an invalidate, which the driver does not count: a fault of the flash has its cause, and leaves the driver stale.
+-- A part of a call, which the driver does not count: a fault of the flash has its cause, and leaves the driver stale.
 pub record IsPartOfCall {F : Type 0} {g : _} {T : Type 0} (state : F → FlashState) (before after : Fee F g) (result : Result T BlockFault) : Type 0 where
   pub calls : Calls (uncounted_of state before) (uncounted_of state after) result
   pub uncounted : after.tally ≡ before.tally
   pub settles : Settles result (uncounted_of state after)
+
+-- A mount, or a part of it: no block changes, no sequence number is used, and neither a lack of room nor one of numbers is answered.
+pub record IsPartOfMount {F : Type 0} {g : _} (state : F → FlashState) (before after : Fee F g) (result : Result (Unit {0}) BlockFault) : Type 0 where
+  pub part : IsPartOfCall state before after result
+  pub values : SameValues (uncounted_of state before) (uncounted_of state after)
+  pub spent : SameSpent (uncounted_of state before) (uncounted_of state after)
+  pub stuck : KeepsStuck (uncounted_of state before) (uncounted_of state after) result
+  pub never_full : NeverFull result

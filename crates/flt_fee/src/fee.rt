@@ -14,7 +14,6 @@ ghost use Rattle.flt_pages.specs.Switch.{MovesRecords};
 ghost use Rattle.flt_pages.specs.RecordPlace.{IsAt, TellsPlaces};
 ghost use Rattle.flt_fee.specs.Costs.{SpendsAtMost, MakesRoom};
 ghost use Rattle.flt_fee.specs.Mounted.{IsMounted};
-ghost use Rattle.flt_fee.specs.Refusal.{KeepsStuck};
 ghost use Rattle.flt_fee.specs.Wear.{StaysEven, UnlessFlash};
 
 use flt_flash::{Arm, Bench, BlockFault, Blocks, Flash, Found, Refused, Tally};
@@ -78,7 +77,7 @@ pub struct Fee<F: Flash> {
 
 impl<F: Flash> Fee<F> {
     ghost use Rattle.flt_fee.specs.Fee.{state_by, state_of, uncounted_of};
-    ghost use Rattle.flt_fee.specs.Stored.{CanBeStored, IsPartOfCall, RefusesRecord, StoresRecord};
+    ghost use Rattle.flt_fee.specs.Stored.{CanBeStored, IsPartOfCall, IsPartOfMount, RefusesRecord, StoresRecord};
 
     /// Appends a record behind the log, where it fits.
     fn append(&mut self, block: u16, bytes: &[u8], valid: bool) -> Result<(), BlockFault>
@@ -109,13 +108,7 @@ impl<F: Flash> Fee<F> {
     /// Begins the first sector: the mount of a flash of which no sector is valid.
     fn format(&mut self) -> Result<(), BlockFault>
         requires { current self.old.used (F.state self.old.flash).image ≡ Ok None }
-        ensures values { SameValues (uncounted_of F.state self.old) (uncounted_of F.state self.new) }
-        ensures spent { SameSpent (uncounted_of F.state self.old) (uncounted_of F.state self.new) }
-        ensures calls { Calls (uncounted_of F.state self.old) (uncounted_of F.state self.new) result }
-        ensures count { self.new.tally ≡ self.old.tally }
-        ensures never_full { NeverFull result }
-        ensures stale { Settles result (uncounted_of F.state self.new) }
-        ensures stuck { KeepsStuck (uncounted_of F.state self.old) (uncounted_of F.state self.new) result }
+        ensures mounts { IsPartOfMount F.state self.old self.new result }
         ensures operations { (F.state self.new.flash).operations ≤ (F.state self.old.flash).operations + 3 }
         ensures even { UnlessFlash result (StaysEven self.old.used (F.state self.old.flash) (F.state self.new.flash)) }
     {
@@ -132,13 +125,7 @@ impl<F: Flash> Fee<F> {
 
     /// Looks at the flash as a power-up left it.
     fn look(&mut self) -> Result<(), BlockFault>
-        ensures values { SameValues (uncounted_of F.state self.old) (uncounted_of F.state self.new) }
-        ensures spent { SameSpent (uncounted_of F.state self.old) (uncounted_of F.state self.new) }
-        ensures calls { Calls (uncounted_of F.state self.old) (uncounted_of F.state self.new) result }
-        ensures count { self.new.tally ≡ self.old.tally }
-        ensures never_full { NeverFull result }
-        ensures stale { Settles result (uncounted_of F.state self.new) }
-        ensures stuck { KeepsStuck (uncounted_of F.state self.old) (uncounted_of F.state self.new) result }
+        ensures mounts { IsPartOfMount F.state self.old self.new result }
         ensures operations { (F.state self.new.flash).operations ≤ (F.state self.old.flash).operations + (self.old.used + 3) }
         ensures even { UnlessFlash result (StaysEven self.old.used (F.state self.old.flash) (F.state self.new.flash)) }
     {
@@ -165,13 +152,7 @@ impl<F: Flash> Fee<F> {
 
     /// Mounts a stale driver.
     fn settle(&mut self) -> Result<(), BlockFault>
-        ensures values { SameValues (uncounted_of F.state self.old) (uncounted_of F.state self.new) }
-        ensures spent { SameSpent (uncounted_of F.state self.old) (uncounted_of F.state self.new) }
-        ensures calls { Calls (uncounted_of F.state self.old) (uncounted_of F.state self.new) result }
-        ensures count { self.new.tally ≡ self.old.tally }
-        ensures never_full { NeverFull result }
-        ensures stale { Settles result (uncounted_of F.state self.new) }
-        ensures stuck { KeepsStuck (uncounted_of F.state self.old) (uncounted_of F.state self.new) result }
+        ensures mounts { IsPartOfMount F.state self.old self.new result }
         ensures kept { IsFalse (uncounted_of F.state self.old).is_stale → IsFalse (uncounted_of F.state self.new).is_stale }
         ensures nothing { IsFalse (uncounted_of F.state self.old).is_stale → (result ≡ Ok tt) × (self.new ≡ self.old) }
         ensures even { UnlessFlash result (StaysEven self.old.used (F.state self.old.flash) (F.state self.new.flash)) }

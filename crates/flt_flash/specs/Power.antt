@@ -1,10 +1,11 @@
 -- Where the operations of a flash in memory fail, and what they leave of its power.
-use Rattle.std.specs.Prelude.{ℕ, Bool, true, false, ◌||◌, List, [], map, if◌then◌else◌, Option, Some, None, is_some}
+use Rattle.std.specs.Prelude.{◌≡◌, ℕ, Bool, true, false, ◌||◌, List, [], map, if◌then◌else◌, Option, Some, None, IfSome, is_some, Result, is_err}
 use Rattle.std.specs.List.{list_any}
 use Rattle.flt_flash.specs.declared.arm.Arm.{Arm}
 use Rattle.flt_flash.specs.declared.arm.Arm.TheVariants.{Cut, Fault, Mute}
 use Rattle.flt_flash.specs.declared.arm.Pattern.{Pattern}
 use Rattle.flt_flash.specs.declared.arm.Pattern.TheVariants.{Nothing}
+use Rattle.flt_flash.specs.declared.flash.FlashFailed.{FlashFailed}
 use Rattle.flt_flash.specs.declared.power.Power.{Power}
 use Rattle.flt_flash.specs.State.{counted}
 use Rattle.flt_flash.specs.Arms.{after_write, acting, mutes, standing_after_write, standing_after_read}
@@ -67,3 +68,9 @@ power_after_read sector page power = record {
   operations = counted power.operations;
   standing = if power.is_off then power.standing else standing_after_read sector page power.standing;
 }
+
+-- One program of a flash in memory fails exactly where the power is off or an arm acts, and is torn by the pattern then.
+pub record FailsByArms {T : Type 0} (before after : PowerState) (result : Result T FlashFailed) (IsTornBy : Pattern → Type 0) : Type 0 where
+  pub fails : is_err result ≡ is_some (failing_by before)
+  pub power : after ≡ power_after_write before
+  pub by_pattern : IfSome (failing_by before) IsTornBy

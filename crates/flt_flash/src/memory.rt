@@ -132,7 +132,7 @@ impl FlashMem {
 impl Flash for FlashMem {
     ghost use Rattle.flt_flash.specs.Memory.{state_of, power_of};
     ghost use Rattle.flt_flash.specs.Shape.{shape_of};
-    ghost use Rattle.flt_flash.specs.Power.{read_fails, failing_by, power_after_write, power_after_read};
+    ghost use Rattle.flt_flash.specs.Power.{FailsByArms, read_fails, failing_by, power_after_write, power_after_read};
 
     ghost state = { state_of };
 
@@ -172,9 +172,7 @@ impl Flash for FlashMem {
         ensures operation { Operates (state_of self.old) (state_of self.new) result }
 
         // It fails exactly where the power is off or an arm stands at it, and is torn by the pattern.
-        ensures fails { is_err result ≡ is_some (failing_by (power_of self.old)) }
-        ensures power { power_of self.new ≡ power_after_write (power_of self.old) }
-        ensures by_pattern { IfSome (failing_by (power_of self.old)) (λ pattern.
+        ensures fails { FailsByArms (power_of self.old) (power_of self.new) result (λ pattern.
             IsProgrammedBy pattern (sector_at (state_of self.old).image sector) page bytes.now (sector_at (state_of self.new).image sector)) }
     {
         let failing = self.power.count_write();

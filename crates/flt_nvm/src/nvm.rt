@@ -67,7 +67,7 @@ impl<B: Blocks + Drop> Nvm<B> {
     fn number(&self, id: u16, place: u8) -> u16
         requires { HasPlace (table_of self.now) id place }
         ensures number { result ≡ number_of id place }
-        ensures given { Contains (driver_of self.now).numbers result }
+        ensures of_driver { Contains (driver_of self.now).numbers result }
     {
         id * 8 + place as u16
     }

@@ -65,7 +65,7 @@ module _ (used : ℕ) (numbers : List ℕ) (before : FlashState) (shape : HasSha
       };
       stays = λ k lt. refl;
       place = (let pages : pages_of content ≡ 0 = ap pages_of nothing in omega (arith, pages));
-      done = λ value unset holds. record { entries = holds.entries; is = holds.is; gives = λ block. holds.gives block ∙ by_test value unset block (number == block) refl };
+      holds = λ value unset holds. record { entries = holds.entries; is = holds.is; gives = λ block. holds.gives block ∙ by_test value unset block (number == block) refl };
     }
       where
         by_test : (value : ℕ → Content) → value number ≡ missing → (block : ℕ) (test : Bool) → test ≡ (number == block)
@@ -117,7 +117,7 @@ module _ (used : ℕ) (numbers : List ℕ) (before : FlashState) (shape : HasSha
       pub block_torn : (told : Result ℕ FlashFailed) → IsErr told → HasRisenBy 1 before.faults after.faults → CopiesBlock before after sector other used numbers number end told
       block_torn (Ok x) fails rose = absurd (cc fails)
       block_torn (Err e) fails rose =
-          record { written = record { pages = does.pages; on = does.on; gates = gates_of_both; cause = rose }; stays = stays_below; place = tt; done = tt }
+          record { written = record { pages = does.pages; on = does.on; gates = gates_of_both; cause = rose }; stays = stays_below; place = tt; holds = tt }
 
       module _ (last : ℕ) (ok : result ≡ Ok tt) (ends : last ≡ end + (2 + byte_pages place.length)) where
         whole : IsWhole (sector_at before.image other) does.pages end number (bytes_at (sector_at before.image sector) place) place.valid
@@ -134,7 +134,7 @@ module _ (used : ℕ) (numbers : List ℕ) (before : FlashState) (shape : HasSha
               written = record { pages = does.pages; on = does.on; gates = gates_of_both; cause = tt };
               stays = stays_below;
               place = omega (arith, ends, content_size);
-              done = λ value unset holds.
+              holds = λ value unset holds.
                   subst (λ (c : Content). LogHolds used numbers does.pages last (given number c value)) (sym is.holds)
                   (subst (λ n. LogHolds used numbers does.pages n (given number (asked_of place.valid (bytes_at (sector_at before.image sector) place)) value)) far
                   (whole_record used numbers (sector_at before.image other) does.pages end value least holds number (bytes_at (sector_at before.image sector) place) place.valid proper (proper.0, proper.2)

@@ -172,13 +172,13 @@ module _ (used : ℕ) (numbers : List ℕ) (start : FlashState) (shape : HasShap
               cause = omega (arith, does.written.cause, is.on.runs.counts);
             };
             room = tt;
-            done = tt;
+            holds = tt;
           }
 
       pub block_done : (after : FlashState) (last : ℕ) → CopiesBlock now after sector other used numbers number end (Ok last) → Copying used numbers start after sector other last (number + 1)
       block_done after last does =
           let there = pages_on now after other does.written.pages shape_now in_other does.written.on in
-          let here = does.done (below from value) (below_out value from number next.found.1) is.holds in
+          let here = does.holds (below from value) (below_out value from number next.found.1) is.holds in
           let same = given_next value from number next.found.1 (none_between from number next) in
           let holds : LogHolds used numbers does.written.pages last (below (number + 1) (held_in used numbers (sector_at start.image sector))) = record {
             entries = here.entries;
@@ -242,7 +242,7 @@ module _ (used : ℕ) (numbers : List ℕ) (start : FlashState) (shape : HasShap
     all_done none = record {
       written = record { pages = sector_at now.image other; on = is.on; gates = is.gates; cause = tt };
       room = omega (arith, is.room, sum_all value from numbers);
-      done = record {
+      holds = record {
         entries = is.holds.entries;
         is = is.holds.is;
         gives = λ block. is.holds.gives block ∙ elim (cases_lt block from) [

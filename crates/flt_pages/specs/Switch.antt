@@ -36,14 +36,14 @@ pub record CopiesBlock (before after : FlashState) (sector other used : ℕ) (nu
   pub written : WritesBehindGates before after other result
   pub stays : (k : ℕ) → k < end → slice_index_or written.pages k [] ≡ slice_index_or (sector_at before.image other) k []
   pub place : IfOk result (λ last. last ≡ end + pages_of (held_in used numbers (sector_at before.image sector) number))
-  pub done : IfOk result (λ last. (value : ℕ → Content) → value number ≡ missing → LogHolds used numbers (sector_at before.image other) end value
+  pub holds : IfOk result (λ last. (value : ℕ → Content) → value number ≡ missing → LogHolds used numbers (sector_at before.image other) end value
       → LogHolds used numbers written.pages last (given number (held_in used numbers (sector_at before.image sector) number) value))
 
 -- The current records of all blocks are copied behind the gates of the other sector; the answer is where its log ends then.
 pub record CopiesBlocks (before after : FlashState) (sector other used : ℕ) (numbers : List ℕ) (result : Result ℕ FlashFailed) : Type 0 where
   pub written : WritesBehindGates before after other result
   pub room : IfOk result (λ end. end ≤ 2 + current_pages used numbers (sector_at before.image sector))
-  pub done : IfOk result (λ end. LogHolds used numbers written.pages end (held_in used numbers (sector_at before.image sector)))
+  pub holds : IfOk result (λ end. LogHolds used numbers written.pages end (held_in used numbers (sector_at before.image sector)))
 
 -- The image has no fault and gives each block this value, whichever of its sectors is the current one.
 pub record GivesValues (used : ℕ) (numbers : List ℕ) (image : List (List (List ℕ))) (value : ℕ → Content) : Type 0 where

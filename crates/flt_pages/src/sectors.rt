@@ -76,7 +76,7 @@ pub fn set_up_flash<F: Flash>(flash: &mut F, used: u16) -> Result<(), FlashFaile
     requires none { current used (F.state flash.old).image ≡ Ok None }
     ensures fresh { OnOk result (IsFresh used (F.state flash.new).image) }
     ensures wear { OnOk result ((F.state flash.new).wear ≡ slice_set (F.state flash.old).wear 0 (counted (slice_index (F.state flash.old).wear 0))) }
-    ensures left { HoldsNothing used (F.state flash.new).image }
+    ensures holds_nothing { HoldsNothing used (F.state flash.new).image }
     ensures runs { MakesOperations (F.state flash.old) (F.state flash.new) }
     ensures operations { (F.state flash.new).operations ≤ (F.state flash.old).operations + 3 }
     ensures cause { OnErr result (HasRisenBy 1 (F.state flash.old).faults (F.state flash.new).faults) }

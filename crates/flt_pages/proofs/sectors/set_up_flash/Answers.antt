@@ -4,8 +4,8 @@ use Rattle.flt_pages.proofs.Recording.{never_ok, on_fault}
 use Rattle.flt_pages.proofs.SettingUp.{begin_failed, activated_fresh, done_fresh, wear_on}
 use Rattle.flt_pages.proofs.sectors.set_up_flash.Goals as goal
 
-pub returns-in_err-begin-clause-left : goal.returns-in_err-begin-clause-left
-returns-in_err-begin-clause-left g c =
+pub returns-in_err-begin-clause-holds_nothing : goal.returns-in_err-begin-clause-holds_nothing
+returns-in_err-begin-clause-holds_nothing g c =
     inl (begin_failed c.args.used c.requires.least (omega arith) (g.F.Flash.state c.args.flash.now) (g.met.F.Flash.shape c.args.flash.now) c.requires.most c.requires.none
     (g.F.Flash.state c.begin.new.flash) c.in_err-begin.ensures.begins.torn)
 
@@ -14,8 +14,8 @@ returns-clause-fresh g c =
     done_fresh c.args.used c.requires.least (omega arith) (g.F.Flash.state c.args.flash.now) (g.met.F.Flash.shape c.args.flash.now) c.requires.most c.requires.none
     (g.F.Flash.state c.begin.new.flash) c.in_ok-begin.ensures.begins.done (g.F.Flash.state c.activate.new.flash) c.activate.result c.activate.ensures.appends
 
-pub returns-clause-left : goal.returns-clause-left
-returns-clause-left g c =
+pub returns-clause-holds_nothing : goal.returns-clause-holds_nothing
+returns-clause-holds_nothing g c =
     activated_fresh c.args.used c.requires.least (omega arith) (g.F.Flash.state c.args.flash.now) (g.met.F.Flash.shape c.args.flash.now) c.requires.most c.requires.none
     (g.F.Flash.state c.begin.new.flash) c.in_ok-begin.ensures.begins.done (g.F.Flash.state c.activate.new.flash) c.activate.result c.activate.ensures.appends
 

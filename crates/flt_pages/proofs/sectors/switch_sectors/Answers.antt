@@ -43,7 +43,7 @@ returns-in_err-activate-clause-values g c =
     activation_left c.args.used c.args.numbers.now (g.F.Flash.state c.args.flash.now) (g.met.F.Flash.shape c.args.flash.now) c.args.sector c.args.sequence c.requires.can.source.log.pages.one_of_two c.requires.can.least (omega arith) c.requires.can.source.log.pages.most
     c.requires.can.current c.requires.can.source.log.sound c.requires.can.next (g.F.Flash.state c.begin.new.flash) (g.met.F.Flash.shape c.begin.new.flash) c.in_ok-begin.ensures.begins.done
     (g.F.Flash.state c.copy_blocks.new.flash) copies.written.pages copies.written.on copies.written.gates c.in_ok-end.end
-    (subst (λ (p : List (List ℕ)). LogHolds c.args.used c.args.numbers.now copies.written.pages c.in_ok-end.end (held_in c.args.used c.args.numbers.now p)) source copies.done)
+    (subst (λ (p : List (List ℕ)). LogHolds c.args.used c.args.numbers.now copies.written.pages c.in_ok-end.end (held_in c.args.used c.args.numbers.now p)) source copies.holds)
     (g.F.Flash.state c.activate.new.flash) c.activate.result c.activate.ensures.appends
 
 pub returns-clause-switched : goal.returns-clause-switched
@@ -56,7 +56,7 @@ returns-clause-switched g c =
       stands = goes_over c.args.used c.args.numbers.now (g.F.Flash.state c.args.flash.now) (g.met.F.Flash.shape c.args.flash.now) c.args.sector c.args.sequence c.requires.can.source.log.pages.one_of_two c.requires.can.least (omega arith) c.requires.can.source.log.pages.most
           c.requires.can.current c.requires.can.source.log.sound c.requires.can.next (g.F.Flash.state c.begin.new.flash) (g.met.F.Flash.shape c.begin.new.flash) c.in_ok-begin.ensures.begins.done
           (g.F.Flash.state c.copy_blocks.new.flash) copies.written.pages copies.written.on copies.written.gates c.in_ok-end.end
-          (subst (λ (p : List (List ℕ)). LogHolds c.args.used c.args.numbers.now copies.written.pages c.in_ok-end.end (held_in c.args.used c.args.numbers.now p)) source copies.done)
+          (subst (λ (p : List (List ℕ)). LogHolds c.args.used c.args.numbers.now copies.written.pages c.in_ok-end.end (held_in c.args.used c.args.numbers.now p)) source copies.holds)
           (g.F.Flash.state c.activate.new.flash) c.in_ok-activate.ensures.appends.done;
       table = table_over c.args.used c.args.numbers.now (g.F.Flash.state c.args.flash.now) (g.met.F.Flash.shape c.args.flash.now) c.args.sector c.args.sequence c.requires.can.source.log.pages.one_of_two c.requires.can.least (omega arith) c.requires.can.source.log.pages.most
           c.requires.can.current c.requires.can.source.log.sound c.requires.can.next (g.F.Flash.state c.begin.new.flash) (g.met.F.Flash.shape c.begin.new.flash) c.in_ok-begin.ensures.begins.done
@@ -79,7 +79,7 @@ returns-clause-values g c =
     activation_left c.args.used c.args.numbers.now (g.F.Flash.state c.args.flash.now) (g.met.F.Flash.shape c.args.flash.now) c.args.sector c.args.sequence c.requires.can.source.log.pages.one_of_two c.requires.can.least (omega arith) c.requires.can.source.log.pages.most
     c.requires.can.current c.requires.can.source.log.sound c.requires.can.next (g.F.Flash.state c.begin.new.flash) (g.met.F.Flash.shape c.begin.new.flash) c.in_ok-begin.ensures.begins.done
     (g.F.Flash.state c.copy_blocks.new.flash) copies.written.pages copies.written.on copies.written.gates c.in_ok-end.end
-    (subst (λ (p : List (List ℕ)). LogHolds c.args.used c.args.numbers.now copies.written.pages c.in_ok-end.end (held_in c.args.used c.args.numbers.now p)) source copies.done)
+    (subst (λ (p : List (List ℕ)). LogHolds c.args.used c.args.numbers.now copies.written.pages c.in_ok-end.end (held_in c.args.used c.args.numbers.now p)) source copies.holds)
     (g.F.Flash.state c.activate.new.flash) c.activate.result c.activate.ensures.appends
 
 pub returns-clause-runs : goal.returns-clause-runs

@@ -1,4 +1,4 @@
-use Rattle.std.proofs.Common.{◌≡◌, true, false, List, Option, sym, subst, Err, arith, ◌∙◌, ap, length}
+use Rattle.std.proofs.Common.{◌≡◌, true, false, List, Option, sym, subst, Err, arith, rules, ◌∙◌, ap, length}
 use Rattle.std.proofs.lemmas.List.{with_items_is}
 use Rattle.flt_flash.specs.declared.blocks.BlockFault.TheVariants.{Flash}
 use Rattle.flt_fee.proofs.Standing.{stale_mounted}
@@ -21,7 +21,7 @@ invariant_of-self g c =
       sized = self.sized;
       table = λ fresh. absurd (cc fresh);
       mounted = stale_mounted self.has_mounted self.used self.numbers _ self.sector self.sequence self.end
-          (λ yes. nothing_wrong self.used self.numbers (omega (arith, self.least)) (g.F.Flash.state c.set_up_flash.new.flash).image c.set_up_flash.ensures.left);
+          (λ yes. nothing_wrong self.used self.numbers (omega (arith, self.least)) (g.F.Flash.state c.set_up_flash.new.flash).image c.set_up_flash.ensures.holds_nothing);
     }
 
 pub invariant_of-self-2 : goal.invariant_of-self-2
@@ -36,38 +36,43 @@ invariant_of-self-2 g c =
       distinct = self.distinct;
       sized = ap length same ∙ c.forget.ensures.size ∙ ap length c.deref_mut.ensures.value ∙ self.sized;
       table = λ fresh. subst (λ (places : List (Option RecordPlace)). TellsPlaces self.numbers places (sector_at after 0) 2 (block_value self.used self.numbers after)) (sym same) (tells_nothing self.numbers c.forget.new.places (sector_at (g.F.Flash.state c.set_up_flash.new.flash).image 0) 2 (block_value self.used self.numbers (g.F.Flash.state c.set_up_flash.new.flash).image)
-          (nothing_held self.used self.numbers (omega (arith, self.least)) (g.F.Flash.state c.set_up_flash.new.flash).image c.in_ok-set_up_flash.ensures.left)
+          (nothing_held self.used self.numbers (omega (arith, self.least)) (g.F.Flash.state c.set_up_flash.new.flash).image c.in_ok-set_up_flash.ensures.holds_nothing)
           (λ k within. c.forget.ensures.none k (omega (arith, within, ap length c.deref_mut.ensures.value, self.sized))));
       mounted = fresh_mounted self.used self.numbers (omega (arith, self.least)) (g.F.Flash.state c.set_up_flash.new.flash).image c.in_ok-set_up_flash.ensures.fresh;
     }
 
-pub returns-in_err-set_up_flash-clause-values : goal.returns-in_err-set_up_flash-clause-values
-returns-in_err-set_up_flash-clause-values g c =
-    let self = c.args.self.now in
-    nothing_changes self.used self.numbers (omega (arith, self.least)) (g.F.Flash.state self.flash) (g.F.Flash.state c.set_up_flash.new.flash) c.requires c.in_err-set_up_flash.ensures.left
-    self.is_stale self.has_mounted true self.has_mounted
-
-pub returns-in_err-set_up_flash-clause-calls : goal.returns-in_err-set_up_flash-clause-calls
-returns-in_err-set_up_flash-clause-calls g c =
+pub returns-in_err-set_up_flash-clause-mounts : goal.returns-in_err-set_up_flash-clause-mounts
+returns-in_err-set_up_flash-clause-mounts g c =
     let self = c.args.self.now in
     let told : c.from_residual.result ≡ Err Flash = grind arith in
-    formatting_calls self.used self.numbers (omega (arith, self.least)) (g.F.Flash.state self.flash) (g.F.Flash.state c.set_up_flash.new.flash) c.requires c.in_err-set_up_flash.ensures.left
-    {T = Unit {0}} c.in_err-set_up_flash.ensures.runs self.is_stale self.has_mounted true self.has_mounted c.from_residual.result (λ yes. yes) (λ flash. c.in_err-set_up_flash.ensures.cause) (λ s p damaged. cc (told, damaged))
+    record {
+      part = record {
+        calls = formatting_calls self.used self.numbers (omega (arith, self.least)) (g.F.Flash.state self.flash) (g.F.Flash.state c.set_up_flash.new.flash) c.requires c.in_err-set_up_flash.ensures.holds_nothing
+            {T = Unit {0}} c.in_err-set_up_flash.ensures.runs self.is_stale self.has_mounted true self.has_mounted c.from_residual.result (λ yes. yes) (λ flash. c.in_err-set_up_flash.ensures.cause) (λ s p damaged. cc (told, damaged));
+        uncounted = search rules;
+        settles = search rules;
+      };
+      values = nothing_changes self.used self.numbers (omega (arith, self.least)) (g.F.Flash.state self.flash) (g.F.Flash.state c.set_up_flash.new.flash) c.requires c.in_err-set_up_flash.ensures.holds_nothing
+          self.is_stale self.has_mounted true self.has_mounted;
+      spent = nothing_spent self.used self.numbers (omega (arith, self.least)) (g.F.Flash.state self.flash) (g.F.Flash.state c.set_up_flash.new.flash) c.requires c.in_err-set_up_flash.ensures.holds_nothing
+          self.is_stale self.has_mounted true self.has_mounted;
+      stuck = search rules;
+      never_full = search rules;
+    }
 
-pub returns-clause-values : goal.returns-clause-values
-returns-clause-values g c =
+pub returns-clause-mounts : goal.returns-clause-mounts
+returns-clause-mounts g c =
     let self = c.args.self.now in
-    nothing_changes self.used self.numbers (omega (arith, self.least)) (g.F.Flash.state self.flash) (g.F.Flash.state c.set_up_flash.new.flash) c.requires c.in_ok-set_up_flash.ensures.left
-    self.is_stale self.has_mounted false true
-
-pub returns-in_err-set_up_flash-clause-spent : goal.returns-in_err-set_up_flash-clause-spent
-returns-in_err-set_up_flash-clause-spent g c =
-    let self = c.args.self.now in
-    nothing_spent self.used self.numbers (omega (arith, self.least)) (g.F.Flash.state self.flash) (g.F.Flash.state c.set_up_flash.new.flash) c.requires c.in_err-set_up_flash.ensures.left
-    self.is_stale self.has_mounted true self.has_mounted
-
-pub returns-clause-spent : goal.returns-clause-spent
-returns-clause-spent g c =
-    let self = c.args.self.now in
-    nothing_spent self.used self.numbers (omega (arith, self.least)) (g.F.Flash.state self.flash) (g.F.Flash.state c.set_up_flash.new.flash) c.requires c.in_ok-set_up_flash.ensures.left
-    self.is_stale self.has_mounted false true
+    record {
+      part = record {
+        calls = search rules;
+        uncounted = search rules;
+        settles = search rules;
+      };
+      values = nothing_changes self.used self.numbers (omega (arith, self.least)) (g.F.Flash.state self.flash) (g.F.Flash.state c.set_up_flash.new.flash) c.requires c.in_ok-set_up_flash.ensures.holds_nothing
+          self.is_stale self.has_mounted false true;
+      spent = nothing_spent self.used self.numbers (omega (arith, self.least)) (g.F.Flash.state self.flash) (g.F.Flash.state c.set_up_flash.new.flash) c.requires c.in_ok-set_up_flash.ensures.holds_nothing
+          self.is_stale self.has_mounted false true;
+      stuck = search rules;
+      never_full = search rules;
+    }

@@ -12,7 +12,7 @@ returns-in_ok-read_record-in-Some-clause-found g c =
     let self = c.settle.new.self in
     let flash = g.F.Flash.state self.flash in
     let shape = g.met.F.Flash.shape self.flash in
-    subst (λ (content : Content). ReadsContent content (Bytes c.in-Some.place.length) c.args.out.now c.read_record.new.out) (c.in_ok-settle.ensures.values c.args.block)
+    subst (λ (content : Content). ReadsContent content (Bytes c.in-Some.place.length) c.args.out.now c.read_record.new.out) (c.in_ok-settle.ensures.mounts.values c.args.block)
     (valid_read (sector_at flash.image self.sector) self.used (block_value self.used self.numbers flash.image c.args.block) c.in-Some.place
     (shape.bytes self.sector self.sectors) (omega (arith, self.within, shape.pages self.sector self.sectors)) c.if-place.true c.in-Some.ensures c.args.out.now c.read_record.new.out
     c.in_ok-read_record-in-Some.ensures.read)
@@ -26,7 +26,7 @@ returns-in_ok-read_record-in-Some-clause-costs g c =
     let shape = g.met.F.Flash.shape self.flash in
     let size = valid_size (sector_at flash.image self.sector) self.used (block_value self.used self.numbers flash.image c.args.block) c.in-Some.place
     (shape.bytes self.sector self.sectors) (omega (arith, self.within, shape.pages self.sector self.sectors)) c.if-place.true c.in-Some.ensures in
-    let long : size_of (block_value old.used old.numbers (g.F.Flash.state old.flash).image c.args.block) ≡ c.in-Some.place.length = ap size_of (sym (c.in_ok-settle.ensures.values c.args.block)) ∙ size in
+    let long : size_of (block_value old.used old.numbers (g.F.Flash.state old.flash).image c.args.block) ≡ c.in-Some.place.length = ap size_of (sym (c.in_ok-settle.ensures.mounts.values c.args.block)) ∙ size in
     let stands : (g.F.Flash.state self.flash).operations ≡ (g.F.Flash.state old.flash).operations = λ i. (g.F.Flash.state ((c.in_ok-settle.ensures.nothing fresh).1 i).flash).operations in
     omega (arith, c.in_ok-read_record-in-Some.ensures.operations, long, stands)
 

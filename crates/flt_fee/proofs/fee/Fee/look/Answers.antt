@@ -11,32 +11,46 @@ use Rattle.flt_fee.proofs.Mounting.{stuck_on, current_there, reading_follows, re
 use Rattle.flt_fee.proofs.Placed.{tells_current}
 use Rattle.flt_fee.proofs.fee.Fee.look.Goals as goal
 
-pub returns-in-None-clause-stuck : goal.returns-in-None-clause-stuck
-returns-in-None-clause-stuck g c =
-    let self = c.args.self.now in
-    let after = c.format.new.self in
-    stuck_on self.used self.numbers (g.F.Flash.state self.flash) (g.F.Flash.state c.current_sector.new.flash) c.current_sector.ensures.reads.image self.is_stale self.has_mounted true self.has_mounted
-    (state_by after.used after.numbers after.is_stale after.has_mounted (g.F.Flash.state after.flash)) c.format.result c.format.ensures.stuck
-
-pub returns-in-None-clause-calls : goal.returns-in-None-clause-calls
-returns-in-None-clause-calls g c =
+pub returns-in-None-clause-mounts : goal.returns-in-None-clause-mounts
+returns-in-None-clause-mounts g c =
     let self = c.args.self.now in
     let after = c.format.new.self in
     let middle = g.F.Flash.state c.current_sector.new.flash in
-    calls_after (state_by self.used self.numbers self.is_stale self.has_mounted (g.F.Flash.state self.flash)) (state_by self.used self.numbers true self.has_mounted middle)
-    (state_by after.used after.numbers after.is_stale after.has_mounted (g.F.Flash.state after.flash)) c.format.result
-    (reading_follows self.used self.numbers (g.F.Flash.state self.flash) middle c.current_sector.ensures.reads self.is_stale self.has_mounted true self.has_mounted (λ yes. yes))
-    c.format.ensures.calls
+    record {
+      part = record {
+        calls = calls_after (state_by self.used self.numbers self.is_stale self.has_mounted (g.F.Flash.state self.flash)) (state_by self.used self.numbers true self.has_mounted middle)
+            (state_by after.used after.numbers after.is_stale after.has_mounted (g.F.Flash.state after.flash)) c.format.result
+            (reading_follows self.used self.numbers (g.F.Flash.state self.flash) middle c.current_sector.ensures.reads self.is_stale self.has_mounted true self.has_mounted (λ yes. yes))
+            c.format.ensures.mounts.part.calls;
+        uncounted = search rules;
+        settles = search rules;
+      };
+      values = search rules;
+      spent = search rules;
+      stuck = stuck_on self.used self.numbers (g.F.Flash.state self.flash) (g.F.Flash.state c.current_sector.new.flash) c.current_sector.ensures.reads.image self.is_stale self.has_mounted true self.has_mounted
+          (state_by after.used after.numbers after.is_stale after.has_mounted (g.F.Flash.state after.flash)) c.format.result c.format.ensures.mounts.stuck;
+      never_full = search rules;
+    }
 
-pub returns-in_err-end-in-Some-clause-calls : goal.returns-in_err-end-in-Some-clause-calls
-returns-in_err-end-in-Some-clause-calls g c =
+pub returns-in_err-end-in-Some-clause-mounts : goal.returns-in_err-end-in-Some-clause-mounts
+returns-in_err-end-in-Some-clause-mounts g c =
     let self = c.args.self.now in
     let middle = g.F.Flash.state c.current_sector.new.flash in
     let found : current self.used middle.image ≡ Ok (Some (current_of c.in-Some.at)) = current_there self.used self.numbers (g.F.Flash.state self.flash) middle c.current_sector.ensures.reads c.in-Some.at c.in_ok-current_sector.field-0 c.in-Some.is c.in_ok-current_sector.ensures.current in
-    calls_after (state_by self.used self.numbers self.is_stale self.has_mounted (g.F.Flash.state self.flash)) (state_by self.used self.numbers true self.has_mounted middle)
-    (state_by self.used self.numbers true self.has_mounted (g.F.Flash.state c.find_places.new.flash)) c.from_residual-in_err-end-in-Some.result
-    (reading_follows self.used self.numbers (g.F.Flash.state self.flash) middle c.current_sector.ensures.reads self.is_stale self.has_mounted true self.has_mounted (λ yes. yes))
-    (search rules)
+    record {
+      part = record {
+        calls = calls_after (state_by self.used self.numbers self.is_stale self.has_mounted (g.F.Flash.state self.flash)) (state_by self.used self.numbers true self.has_mounted middle)
+            (state_by self.used self.numbers true self.has_mounted (g.F.Flash.state c.find_places.new.flash)) c.from_residual-in_err-end-in-Some.result
+            (reading_follows self.used self.numbers (g.F.Flash.state self.flash) middle c.current_sector.ensures.reads self.is_stale self.has_mounted true self.has_mounted (λ yes. yes))
+            (search rules);
+        uncounted = search rules;
+        settles = search rules;
+      };
+      values = search rules;
+      spent = search rules;
+      stuck = search rules;
+      never_full = search rules;
+    }
 
 pub invariant_of-self-in-Some : goal.invariant_of-self-in-Some
 invariant_of-self-in-Some g c =

@@ -22,14 +22,14 @@ returns-in_err-make_room-clause-stored g c =
     let settled = uncounted_of g.F.Flash.state c.settle.new.self in
     let after = uncounted_of g.F.Flash.state new in
     let failed : Result (Unit {0}) BlockFault = Err c.in_err-make_room.field-0.0 in
-    let same = same_refusal before settled c.args.block (length c.args.bytes.now) c.in_ok-settle.ensures.calls.follows.numbers c.in_ok-settle.ensures.calls.follows.room c.in_ok-settle.ensures.values (c.in_ok-settle.ensures.stuck c.args.block (length c.args.bytes.now)) in
+    let same = same_refusal before settled c.args.block (length c.args.bytes.now) c.in_ok-settle.ensures.mounts.part.calls.follows.numbers c.in_ok-settle.ensures.mounts.part.calls.follows.room c.in_ok-settle.ensures.mounts.values (c.in_ok-settle.ensures.mounts.stuck c.args.block (length c.args.bytes.now)) in
     let told : c.from_residual-in_err-make_room.result ≡ Err c.in_err-make_room.field-0.0 = grind arith in
     record {
       answers = subst (λ (result : Result (Unit {0}) BlockFault). AnswersBy (refusal before c.args.block (length c.args.bytes.now)) result) (sym told)
           (subst (λ (refused : Option BlockFault). AnswersBy refused (Err c.in_err-make_room.field-0.0)) same c.in_err-make_room.ensures.refuses.answers);
       stores = λ fresh none.
           let untouched = unless before after failed ((g.F.Flash.state new.flash) ≡ (g.F.Flash.state c.settle.new.self.flash))
-          (calls_after before settled after failed c.in_ok-settle.ensures.calls.follows c.in_err-make_room.ensures.part.calls) (old.mounted.mounted fresh) none c.in_err-make_room.ensures.refuses.untouched in
+          (calls_after before settled after failed c.in_ok-settle.ensures.mounts.part.calls.follows c.in_err-make_room.ensures.part.calls) (old.mounted.mounted fresh) none c.in_err-make_room.ensures.refuses.untouched in
           let settles : (g.F.Flash.state c.settle.new.self.flash) ≡ (g.F.Flash.state old.flash) = λ i. g.F.Flash.state ((c.in_ok-settle.ensures.nothing fresh).1 i).flash in
           store_costs old.used new.used old.numbers new.numbers (g.F.Flash.state old.flash) (g.F.Flash.state new.flash) (g.met.F.Flash.shape old.flash) old.end (length c.args.bytes.now) old.sector old.sectors
           old.is_stale old.has_mounted new.is_stale new.has_mounted (inl (untouched ∙ settles))
@@ -41,7 +41,7 @@ returns-in_err-make_room-clause-even g c =
     let old = c.args.self.now in
     let settled = c.settle.new.self in
     let new = c.make_room.new.self in
-    let same = used_same settled.used old.used settled.least old.least c.in_ok-settle.ensures.calls.follows.room in
+    let same = used_same settled.used old.used settled.least old.least c.in_ok-settle.ensures.mounts.part.calls.follows.room in
     let told : c.from_residual-in_err-make_room.result ≡ Err c.in_err-make_room.field-0.0 = grind arith in
     unless_map c.from_residual-in_err-make_room.result (StaysEven settled.used (g.F.Flash.state settled.flash) (g.F.Flash.state new.flash)) (StaysEven old.used (g.F.Flash.state old.flash) (g.F.Flash.state new.flash))
     (λ two. even_on old.used (g.F.Flash.state old.flash) (g.F.Flash.state settled.flash) (g.F.Flash.state new.flash) c.in_ok-settle.ensures.even
@@ -55,7 +55,7 @@ returns-clause-changes g c =
     let roomy = uncounted_of g.F.Flash.state c.make_room.new.self in
     let after = uncounted_of g.F.Flash.state c.append.new.self in
     changes_on before roomy after c.args.block (asked_of c.args.valid c.args.bytes.now) (length c.args.bytes.now) c.append.result
-    (values_on before settled roomy c.in_ok-settle.ensures.values c.in_ok-make_room.ensures.values) c.append.ensures.never_full c.append.ensures.changes
+    (values_on before settled roomy c.in_ok-settle.ensures.mounts.values c.in_ok-make_room.ensures.values) c.append.ensures.never_full c.append.ensures.changes
 
 pub returns-clause-part : goal.returns-clause-part
 returns-clause-part g c =
@@ -64,7 +64,7 @@ returns-clause-part g c =
     let roomy = uncounted_of g.F.Flash.state c.make_room.new.self in
     let after = uncounted_of g.F.Flash.state c.append.new.self in
     record {
-      calls = calls_after before roomy after c.append.result (more_calls before settled roomy c.in_ok-settle.ensures.calls.follows c.in_ok-make_room.ensures.part.calls.follows) c.append.ensures.part.calls;
+      calls = calls_after before roomy after c.append.result (more_calls before settled roomy c.in_ok-settle.ensures.mounts.part.calls.follows c.in_ok-make_room.ensures.part.calls.follows) c.append.ensures.part.calls;
       uncounted = search rules;
       settles = search rules;
     }
@@ -77,7 +77,7 @@ returns-clause-stored g c =
     let before = uncounted_of g.F.Flash.state old in
     let settled = uncounted_of g.F.Flash.state c.settle.new.self in
     let after = uncounted_of g.F.Flash.state new in
-    let same = same_refusal before settled c.args.block (length c.args.bytes.now) c.in_ok-settle.ensures.calls.follows.numbers c.in_ok-settle.ensures.calls.follows.room c.in_ok-settle.ensures.values (c.in_ok-settle.ensures.stuck c.args.block (length c.args.bytes.now)) in
+    let same = same_refusal before settled c.args.block (length c.args.bytes.now) c.in_ok-settle.ensures.mounts.part.calls.follows.numbers c.in_ok-settle.ensures.mounts.part.calls.follows.room c.in_ok-settle.ensures.mounts.values (c.in_ok-settle.ensures.mounts.stuck c.args.block (length c.args.bytes.now)) in
     record {
       answers = not_refused (refusal before c.args.block (length c.args.bytes.now)) c.append.result (sym same ∙ c.in_ok-make_room.ensures.refuses.answers) c.append.ensures.never_full;
       stores = λ fresh none. (let made = subst (λ (fee : Fee g.row.F.Denot g.F.Flash). MakesRoom fee.used fee.end (live_pages (uncounted_of g.F.Flash.state fee)) (length c.args.bytes.now) fee.sector (g.F.Flash.state fee.flash) (g.F.Flash.state roomy.flash))
@@ -85,7 +85,7 @@ returns-clause-stored g c =
           store_costs old.used new.used old.numbers new.numbers (g.F.Flash.state old.flash) (g.F.Flash.state new.flash) (g.met.F.Flash.shape old.flash) old.end (length c.args.bytes.now) old.sector old.sectors
           old.is_stale old.has_mounted new.is_stale new.has_mounted
           (unless before after c.append.result (Stores old.used old.end (live_pages before) (length c.args.bytes.now) old.sector (g.F.Flash.state old.flash) (g.F.Flash.state new.flash))
-          (calls_after before (uncounted_of g.F.Flash.state roomy) after c.append.result (more_calls before settled (uncounted_of g.F.Flash.state roomy) c.in_ok-settle.ensures.calls.follows c.in_ok-make_room.ensures.part.calls.follows) c.append.ensures.part.calls)
+          (calls_after before (uncounted_of g.F.Flash.state roomy) after c.append.result (more_calls before settled (uncounted_of g.F.Flash.state roomy) c.in_ok-settle.ensures.mounts.part.calls.follows c.in_ok-make_room.ensures.part.calls.follows) c.append.ensures.part.calls)
           (old.mounted.mounted fresh) none
           (stored_behind old.used old.end (live_pages before) (length c.args.bytes.now) old.sector (g.F.Flash.state old.flash) (g.F.Flash.state roomy.flash) (g.F.Flash.state new.flash) made c.append.result c.append.ensures.never_full c.append.ensures.spends))
           _ (past_is old.is_stale old.has_mounted fresh old.used old.numbers (g.F.Flash.state old.flash) old.sector old.sequence old.end old.least old.distinct old.mounted (length c.args.bytes.now)));
@@ -101,7 +101,7 @@ returns-clause-costs g c =
     let after = uncounted_of g.F.Flash.state new in
     put_costs old.used new.used old.numbers new.numbers (g.F.Flash.state old.flash) (g.F.Flash.state new.flash) (g.met.F.Flash.shape old.flash) old.least old.end (live_pages before) (length c.args.bytes.now) old.sector old.sectors
     old.is_stale old.has_mounted new.is_stale new.has_mounted c.append.result old.mounted.mounted
-    (calls_after before (uncounted_of g.F.Flash.state roomy) after c.append.result (more_calls before settled (uncounted_of g.F.Flash.state roomy) c.in_ok-settle.ensures.calls.follows c.in_ok-make_room.ensures.part.calls.follows) c.append.ensures.part.calls)
+    (calls_after before (uncounted_of g.F.Flash.state roomy) after c.append.result (more_calls before settled (uncounted_of g.F.Flash.state roomy) c.in_ok-settle.ensures.mounts.part.calls.follows c.in_ok-make_room.ensures.part.calls.follows) c.append.ensures.part.calls)
     (λ fresh. stored_behind old.used old.end (live_pages before) (length c.args.bytes.now) old.sector (g.F.Flash.state old.flash) (g.F.Flash.state roomy.flash) (g.F.Flash.state new.flash)
     (subst (λ (fee : Fee g.row.F.Denot g.F.Flash). MakesRoom fee.used fee.end (live_pages (uncounted_of g.F.Flash.state fee)) (length c.args.bytes.now) fee.sector (g.F.Flash.state fee.flash) (g.F.Flash.state roomy.flash))
     (c.in_ok-settle.ensures.nothing fresh).1 c.in_ok-make_room.ensures.made) c.append.result c.append.ensures.never_full c.append.ensures.spends)
@@ -112,7 +112,7 @@ returns-clause-even g c =
     let settled = c.settle.new.self in
     let roomy = c.make_room.new.self in
     let new = c.append.new.self in
-    let one = used_same settled.used old.used settled.least old.least c.in_ok-settle.ensures.calls.follows.room in
+    let one = used_same settled.used old.used settled.least old.least c.in_ok-settle.ensures.mounts.part.calls.follows.room in
     let two = used_same roomy.used settled.used roomy.least settled.least c.in_ok-make_room.ensures.part.calls.follows.room in
     unless_any c.append.result (StaysEven old.used (g.F.Flash.state old.flash) (g.F.Flash.state new.flash))
     (even_on old.used (g.F.Flash.state old.flash) (g.F.Flash.state settled.flash) (g.F.Flash.state new.flash) c.in_ok-settle.ensures.even

@@ -10,10 +10,10 @@ returns-clause-even g c =
     let old = c.args.self.now in
     let new = c.look.new.self in
     unless_fault (state_by old.used old.numbers old.is_stale old.has_mounted (g.F.Flash.state old.flash)) (state_by new.used new.numbers new.is_stale new.has_mounted (g.F.Flash.state new.flash)) c.look.result
-    (StaysEven old.used (g.F.Flash.state old.flash) (g.F.Flash.state new.flash)) c.look.ensures.calls c.look.ensures.even
+    (StaysEven old.used (g.F.Flash.state old.flash) (g.F.Flash.state new.flash)) c.look.ensures.mounts.part.calls c.look.ensures.even
 
 pub returns-clause-calls : goal.returns-clause-calls
-returns-clause-calls g c = calls_recounted _ _ _ _ (uncounted_of g.F.Flash.state c.args.self.now) (uncounted_of g.F.Flash.state c.look.new.self) c.look.ensures.calls
+returns-clause-calls g c = calls_recounted _ _ _ _ (uncounted_of g.F.Flash.state c.args.self.now) (uncounted_of g.F.Flash.state c.look.new.self) c.look.ensures.mounts.part.calls
 
 pub returns-clause-costs : goal.returns-clause-costs
 returns-clause-costs g c = omega (arith, c.look.ensures.operations, c.args.self.now.least)
