@@ -13,6 +13,6 @@ overflow_add-result g c =
     let is = given (driver_of c.args.self.now).numbers (table_of c.args.self.now) c.args.id c.args.self.now.served c.args.place c.requires in
     omega (arith, is.id_is, is.place_is)
 
-pub returns-clause-given : goal.returns-clause-given
-returns-clause-given g c =
+pub returns-clause-of_driver : goal.returns-clause-of_driver
+returns-clause-of_driver g c =
     (given (driver_of c.args.self.now).numbers (table_of c.args.self.now) c.args.id c.args.self.now.served c.args.place c.requires).number
