@@ -82,7 +82,7 @@ impl<F: Flash> Fee<F> {
     /// Appends a record behind the log, where it fits.
     fn append(&mut self, block: u16, bytes: &[u8], valid: bool) -> Result<(), BlockFault>
         requires not_stale { IsFalse (uncounted_of F.state self.old).is_stale }
-        requires record { CanBeStored (uncounted_of F.state self.old).numbers block (length bytes.now) valid }
+        requires can { CanBeStored (uncounted_of F.state self.old).numbers block (length bytes.now) valid }
         requires room { self.old.end + 2 + byte_pages (length bytes.now) ≤ self.old.used }
         ensures changes { Changes (uncounted_of F.state self.old) (uncounted_of F.state self.new) block (asked_of valid bytes.now) (length bytes.now) result }
         ensures part { IsPartOfCall F.state self.old self.new result }
@@ -225,7 +225,7 @@ impl<F: Flash> Fee<F> {
 
     /// Gives a block these bytes, or makes it invalid.
     fn put(&mut self, block: u16, bytes: &[u8], valid: bool) -> Result<(), BlockFault>
-        requires record { CanBeStored (uncounted_of F.state self.old).numbers block (length bytes.now) valid }
+        requires can { CanBeStored (uncounted_of F.state self.old).numbers block (length bytes.now) valid }
         ensures changes { Changes (uncounted_of F.state self.old) (uncounted_of F.state self.new) block (asked_of valid bytes.now) (length bytes.now) result }
         ensures part { IsPartOfCall F.state self.old self.new result }
         ensures stored { StoresRecord self.old.used (uncounted_of F.state self.old) (uncounted_of F.state self.new) block (length bytes.now) result }

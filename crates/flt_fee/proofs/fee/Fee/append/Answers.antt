@@ -32,8 +32,8 @@ goes g c =
       within = self.sectors;
       begins = omega (arith, self.least);
       stands = mounted_stands self.is_stale self.has_mounted c.requires.not_stale self.used self.numbers (g.F.Flash.state self.flash).image self.sector self.sequence self.end self.mounted;
-      proper = (omega arith, omega arith, omega arith, c.requires.record.kind);
-      among = is_among self.numbers c.args.block c.requires.record.number;
+      proper = (omega arith, omega arith, omega arith, c.requires.can.kind);
+      among = is_among self.numbers c.args.block c.requires.can.number;
       room = c.requires.room;
     }
 
