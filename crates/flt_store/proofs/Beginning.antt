@@ -26,7 +26,7 @@ use Rattle.flt_store.specs.Started.{HasMark, IsStarted}
 use Rattle.flt_store.specs.Cause.{Writes}
 use Rattle.flt_store.specs.Dark.{IsCommitUnmended}
 use Rattle.flt_store.specs.Spent.{IsCommitStuck}
-use Rattle.flt_store.specs.Start.{Begins}
+use Rattle.flt_store.specs.Start.{Begins, IsFoundIn}
 use Rattle.flt_store.proofs.Causes.{borne_stays, writes_on}
 use Rattle.flt_store.proofs.Dark.{commit_from}
 use Rattle.flt_store.proofs.Marks.{TriesMark, keeps_marked, borne_marked, applications_marked}
@@ -145,6 +145,16 @@ pub begins_of : (c : Config) → IsGiven c → (before after : BlocksState) (fou
 begins_of c given before after found state same restored =
     let values : before.value ≡ after.value = λ i number. sym (same number) i in
     subst (λ (value : ℕ → Content). Begins c value found (generation found state)) values (begins_at c given before after found state restored)
+
+-- So the copy that was found stands.
+found_at : (c : Config) (before after : BlocksState) (found : Option CommitCopy) (state : Persist) → IsRestored c before after found state → IsFoundIn c before.value found
+found_at c before after None state restored = tt
+found_at c before after (Some found) state restored = ⊎_elim (λ by_either. by_either.1.1) (λ by_second. by_second.1.1) restored
+
+pub found_in : (c : Config) (before after : BlocksState) (found : Option CommitCopy) (state : Persist) → SameValues before after → IsRestored c before after found state → IsFoundIn c after.value found
+found_in c before after found state same restored =
+    let values : before.value ≡ after.value = λ i number. sym (same number) i in
+    subst (λ (value : ℕ → Content). IsFoundIn c value found) values (found_at c before after found state restored)
 
 -- The state from which a start-up begins fits.
 pub begun_fits : (c : Config) (value : ℕ → Content) (found : Option CommitCopy) (state : Persist) → Begins c value found (generation found state) → Fits c state

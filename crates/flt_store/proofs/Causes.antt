@@ -6,7 +6,7 @@ use Rattle.std.proofs.lemmas.Bool.{cases_eq}
 use Rattle.std.proofs.lemmas.List.Sums.{sum_by-le-sum_by}
 use Rattle.flt_flash.specs.Content.{Content, bytes}
 use Rattle.flt_flash.specs.Blocks.{BlocksState, pages_of, record_pages, IsFull}
-use Rattle.flt_flash.specs.Calls.{Calls, Follows}
+use Rattle.flt_flash.specs.Calls.{Calls, Follows, ReadsAlone}
 use Rattle.flt_flash.specs.declared.blocks.BlockFault.{BlockFault}
 use Rattle.flt_flash.specs.declared.blocks.BlockFault.TheVariants.{Flash, Full, SequenceSpent, Damaged}
 use Rattle.flt_flash.proofs.CallsInARow.{no_call, more_calls}
@@ -20,15 +20,18 @@ use Rattle.flt_store_model.proofs.Pages.{borne_has_room}
 use Rattle.flt_store_model.specs.Form.{commit_length}
 use Rattle.flt_store.specs.Cause.{FailsThrice, HasRoom, IsWithinOwn, Writes}
 
--- No write, and some writes and then more.
-pub no_write : (state : BlocksState) → Writes state state (Ok (tt {0}))
-no_write state = record {
-  follows = no_call state;
+-- Calls behind which Ok was answered, no write, and some writes and then more.
+pub calls_done : {T : Type 0} (before after : BlocksState) (value : T) → Follows before after → Writes {T = T} before after (Ok value)
+calls_done before after value follows = record {
+  follows = follows;
   flash = λ told. absurd (cc told);
   full = λ live needed told. absurd (cc told);
   stuck = λ told. absurd (cc told);
   mounted = λ has sector page told. absurd (cc told);
 }
+
+pub no_write : (state : BlocksState) → Writes state state (Ok (tt {0}))
+no_write state = calls_done state state tt (no_call state)
 
 pub writes_on : {T : Type 0} (before middle after : BlocksState) (result : Result T BlockFault) → Follows before middle → Writes middle after result → Writes before after result
 writes_on before middle after result first then_ = record {
@@ -61,6 +64,16 @@ module _ (before after : BlocksState) (result : Result (Unit {0}) BlockFault) (c
     mounted = not_mounted;
   }
 
+-- A read, which is failed by the flash or by a fault of the image alone.
+pub one_read : {T : Type 0} (before after : BlocksState) (result : Result T BlockFault) → ReadsAlone before after result → FlashTakesThree before after result → Writes before after result
+one_read before after result reads three = record {
+  follows = reads.calls.follows;
+  flash = three;
+  full = λ live needed told. absurd (reads.never_full.full live needed told);
+  stuck = λ told. absurd (reads.never_full.spent told);
+  mounted = λ has sector page told. (let none = (reads.calls.damaged sector page told).1 in absurd (cc (has, none)));
+}
+
 -- The answer of another type has the same causes.
 pub writes_as : {S T : Type 0} (before after : BlocksState) (fault : BlockFault) → Writes {T = S} before after (Err fault) → Writes {T = T} before after (Err fault)
 writes_as {S} {T} before after fault writes = record {
@@ -82,13 +95,7 @@ writes_handed {S} {T} before after result (Err told) fault was made writes =
     writes_as {S = S} {T = T} before after told (subst (λ (r : Result S BlockFault). Writes before after r) (was ∙ ap Err (sym made)) writes)
 
 pub writes_done : {S T : Type 0} (before after : BlocksState) (result : Result S BlockFault) (value : T) → Writes before after result → Writes {T = T} before after (Ok value)
-writes_done before after result value writes = record {
-  follows = writes.follows;
-  flash = λ told. absurd (cc told);
-  full = λ live needed told. absurd (cc told);
-  stuck = λ told. absurd (cc told);
-  mounted = λ has sector page told. absurd (cc told);
-}
+writes_done before after result value writes = calls_done before after value writes.follows
 
 -- What stands and what is written stays within the bounds.
 pub none_written : (c : Config) (value : ℕ → Content) → IsWithinOwn c value value

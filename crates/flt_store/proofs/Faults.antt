@@ -1,5 +1,5 @@
 -- What a start-up judges of the blocks is never a fault of a page.
-use Rattle.std.proofs.Common.{◌≡◌, ⊎_elim, ℕ, zero, suc, ◌+◌, Bool, true, false, Option, Some, None, Result, Ok, Err, refl, ◌∙◌, subst, arith}
+use Rattle.std.proofs.Common.{◌≡◌, ⊎_elim, ℕ, zero, suc, ◌+◌, Bool, true, false, Option, Some, None, Result, Ok, Err, refl, ◌∙◌, ap, subst, arith}
 use Rattle.std.specs.Prelude.{IsTrue, IfErr, nat_le, if◌then◌else◌}
 use Rattle.flt_flash.specs.Content.{Content, missing, invalid, bytes}
 use Rattle.flt_flash.specs.Blocks.{BlocksState}
@@ -7,6 +7,8 @@ use Rattle.flt_flash.specs.Calls.{Follows, SameValues}
 use Rattle.flt_flash.specs.declared.blocks.Blocks.{Ghosts}
 use Rattle.flt_flash.specs.declared.blocks.BlockFault.{BlockFault}
 use Rattle.flt_flash.specs.declared.blocks.BlockFault.TheVariants.{Flash as FlashFault, Full, SequenceSpent as Stuck, Damaged as DamagedPage}
+use Rattle.flt_nvm.specs.Leaves.{MountsInAJob}
+use Rattle.flt_nvm.specs.Tries.{Mounts, Tries}
 use Rattle.flt_config.specs.declared.config.Config.{Config}
 use Rattle.flt_config.specs.declared.persist.Persist.{Persist}
 use Rattle.flt_config.specs.Validity.{needed_pages}
@@ -24,6 +26,7 @@ use Rattle.flt_restore.specs.Restored.{IsJudged, Refuses}
 use Rattle.flt_restore.specs.Told.{told_of}
 use Rattle.flt_store.specs.declared.store.Store.{Store}
 use Rattle.flt_store.specs.Cause.{FailsThrice}
+use Rattle.flt_store.specs.Dark.{IsOfBlocks}
 use Rattle.flt_store.specs.Store.{driver_of, numbered}
 use Rattle.flt_store.proofs.Beginning.{judged_in, not_spent}
 use Rattle.flt_store.specs.Start.{Judges, RefusedFor, Starts}
@@ -125,6 +128,36 @@ module _ {B : Type 0} {b : Ghosts B} (c : Config) (before after : Store B b) whe
   refused_by_writing (Full live needed) g judged spent thrice mounted = thrice (λ is. absurd (cc is))
   refused_by_writing Stuck g judged spent thrice mounted = ((g, judged), spent refl)
   refused_by_writing (DamagedPage sector page) g judged spent thrice mounted = absurd (mounted sector page refl)
+
+-- A fault of a write is none that is judged of the blocks.
+pub never_of_blocks : (fault : BlockFault) → IsOfBlocks (told_of fault) → ⊥
+never_of_blocks FlashFault of_blocks = of_blocks
+never_of_blocks (Full live needed) of_blocks = of_blocks
+never_of_blocks Stuck of_blocks = of_blocks
+never_of_blocks (DamagedPage sector page) of_blocks = of_blocks
+
+pub was_stuck : (fault : BlockFault) → told_of fault ≡ SequenceSpent → fault ≡ Stuck
+was_stuck FlashFault is = absurd (cc is)
+was_stuck (Full live needed) is = absurd (cc is)
+was_stuck Stuck is = refl
+was_stuck (DamagedPage sector page) is = absurd (cc is)
+
+-- A mount that failed.
+module _ {before after : BlocksState} where
+  pub dark_by_mount : (fault : BlockFault) → MountsInAJob before after (Err fault) → told_of fault ≡ Flash → Tries 3 Mounts before after (Err FlashFault)
+  dark_by_mount FlashFault mounts is = mounts.tries
+  dark_by_mount (Full live needed) mounts is = absurd (mounts.never_full.full live needed refl)
+  dark_by_mount Stuck mounts is = absurd (cc is)
+  dark_by_mount (DamagedPage sector page) mounts is = absurd (cc is)
+
+  pub never_stuck_by_mount : (fault : BlockFault) → MountsInAJob before after (Err fault) → told_of fault ≡ SequenceSpent → ⊥
+  never_stuck_by_mount fault mounts is = mounts.never_full.spent (ap Err (was_stuck fault is))
+
+pub refused_by_mount : {B : Type 0} {b : Ghosts B} (c : Config) (before after : Store B b) (fault : BlockFault) → MountsInAJob (driver_of before) (driver_of after) (Err fault) → RefusedFor c before after (told_of fault)
+refused_by_mount c before after FlashFault mounts = mounts.three refl
+refused_by_mount c before after (Full live needed) mounts = absurd (mounts.never_full.full live needed refl)
+refused_by_mount c before after Stuck mounts = absurd (mounts.never_full.spent refl)
+refused_by_mount c before after (DamagedPage sector page) mounts = let damaged = mounts.calls.damaged sector page refl in (damaged.0, damaged.1, mounts.values)
 
 -- What was judged behind a mount was judged in the whole start-up.
 module _ {B : Type 0} {b : Ghosts B} (c : Config) (before middle after : Store B b) (follows : Follows (driver_of before) (driver_of middle)) (same : SameValues (driver_of before) (driver_of middle))

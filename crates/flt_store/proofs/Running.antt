@@ -4,7 +4,8 @@ use Rattle.std.specs.Prelude.{IsTrue, IsFalse, IfOk, OnOk, OnErr, IsErrOf}
 use Rattle.std.specs.Result.{IsErrAnd}
 use Rattle.flt_flash.specs.Content.{Content}
 use Rattle.flt_flash.specs.Blocks.{BlocksState}
-use Rattle.flt_flash.specs.Calls.{Follows, SameValues}
+use Rattle.flt_flash.specs.Calls.{Follows, SameValues, Settles}
+use Rattle.flt_flash.specs.declared.blocks.BlockFault.{BlockFault}
 use Rattle.flt_config.specs.declared.config.Config.{Config}
 use Rattle.flt_store_model.specs.Holding.{Generation, IsOneOf, IsSound}
 use Rattle.flt_store.specs.Cause.{FailsThrice, HasRoom}
@@ -80,6 +81,10 @@ pub on_ok : {T E : Type 0} {P Q : Type 0} (result : Result T E) → (P → Q) �
 on_ok (Ok x) to p = to p
 on_ok (Err e) to p = tt
 
+pub ok_of : {T E : Type 0} {P : T → Type 0} {Q : Type 0} (result : Result T E) → ((x : T) → P x → Q) → IfOk result P → OnOk result Q
+ok_of (Ok x) to p = to x p
+ok_of (Err e) to p = tt
+
 pub taken : {T E : Type 0} {P : Type 0} {x : T} (result : Result T E) → result ≡ Ok x → OnOk result P → P
 taken {P = P} {x = x} result is p = subst (λ r. OnOk r P) is p
 
@@ -89,6 +94,20 @@ err_taken {P = P} {e = e} result is p = subst (λ r. OnErr r P) is p
 pub whenever : {T E : Type 0} {P : Type 0} (result : Result T E) → P → OnErr result P
 whenever (Ok x) p = tt
 whenever (Err e) p = p
+
+-- An answer that hands on a fault is no Ok.
+pub failed_ok : {T E : Type 0} (P : E → Type 0) (Q : Type 0) (answer : Result T E) → IsErrAnd answer P → OnOk answer Q
+failed_ok P Q (Ok x) made = absurd made
+failed_ok P Q (Err e) made = tt
+
+pub failed_if_ok : {T E : Type 0} (P : E → Type 0) (Q : T → Type 0) (answer : Result T E) → IsErrAnd answer P → IfOk answer Q
+failed_if_ok P Q (Ok x) made = absurd made
+failed_if_ok P Q (Err e) made = tt
+
+-- A driver that answered Ok is not stale.
+pub fresh_on_ok : {T : Type 0} (result : Result T BlockFault) (after : BlocksState) → Settles result after → OnOk result (IsFalse after.is_stale)
+fresh_on_ok (Ok x) after settles = settles
+fresh_on_ok (Err e) after settles = tt
 
 -- What holds of the fault that an answer was made of holds of the one that it is.
 pub told_by : {T E : Type 0} (P : E → Type 0) (answer : Result T E) (told : E) → IsErrAnd answer P → IsErrOf answer told → P told

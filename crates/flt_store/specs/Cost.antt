@@ -18,9 +18,13 @@ pub record Spends (most : ℕ) (before after : BlocksState) (pages limit : ℕ) 
   pub at_the_end : IsFalse before.is_stale → NoFault before after → NoErase before after → CostsAtMost pages before after
   pub at_most : SwitchesWithin before.room most → IsFalse before.is_stale → NoFault before after → CostsAtMost limit before after
 
--- A weight of each block that is written for the next commit, over so many blocks.
+-- The weight of a block where it is written for the next commit, else 0.
+abbrev pub weight_written : Config → Option Commit → Commit → (ℕ → ℕ) → ℕ → ℕ
+weight_written c current next weight id = if is_written c current next id then weight id else 0
+
+-- The same of so many blocks.
 unfoldable pub written_sum : Config → Option Commit → Commit → (ℕ → ℕ) → ℕ → ℕ
-written_sum c current next weight count = sum_by (λ id. if is_written c current next id then weight id else 0) (range_with_len first_part count)
+written_sum c current next weight count = sum_by (weight_written c current next weight) (range_with_len first_part count)
 
 -- The pages of the records of the blocks that a save writes: all in the first save, else those whose bytes changed.
 abbrev pub pages_to_write : Config → Option Commit → (ℕ → List ℕ) → (ℕ → List ℕ) → ℕ

@@ -49,9 +49,13 @@ pub record IsCommitUnmended (before after : BlocksState) : Type 0 where
 abbrev pub IsUnbegun : Config → BlocksState → BlocksState → Type 0
 IsUnbegun c before after = IsMarkUnwritten c before after ⊎ IsCommitUnmended before after
 
--- Three mounts in a row failed; or what a start-up needs of the image could not be read, or not be written.
+-- What a start-up needs of the image could not be read, or not be written.
+abbrev pub IsUnready : Config → BlocksState → BlocksState → Type 0
+IsUnready c before after = IsImageUnread c before after ⊎ IsUnbegun c before after
+
+-- Three mounts in a row failed; or the image could not be made ready.
 abbrev pub IsDark : Config → BlocksState → BlocksState → Type 0
-IsDark c before after = Tries 3 Mounts before after (Err Flash) ⊎ IsImageUnread c before after ⊎ IsUnbegun c before after
+IsDark c before after = Tries 3 Mounts before after (Err Flash) ⊎ IsUnready c before after
 
 -- Of the commit neither copy could be read, or one could not and the other has no bytes; or its other copy could not be mended.
 abbrev pub IsUnrestarted : BlocksState → BlocksState → Type 0

@@ -9,3 +9,8 @@ pub mod Store
 pub mod Start
 pub mod Dark
 pub mod Spent
+pub mod Leaving
+pub mod Saving
+pub mod Starting
+pub mod Restarting
+pub mod Applications

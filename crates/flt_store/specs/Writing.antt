@@ -15,7 +15,10 @@ AreCopiesOf commit value = (value first_commit ≡ bytes (commit_bytes commit)) 
 abbrev pub AreSized : Config → (ℕ → List ℕ) → Type 0
 AreSized c bytes_of = (id : ℕ) → IsTrue (is_used c id) → length (bytes_of id) ≡ part_length (part_of id)
 
+-- This block has these bytes where the next commit names it.
+abbrev pub IsBlockWritten : Commit → (ℕ → List ℕ) → (ℕ → Content) → ℕ → Type 0
+IsBlockWritten next bytes_of value id = value (number_of id (index_in next id)) ≡ bytes (bytes_of id)
+
 -- The blocks that are written for the next commit stand where it names them.
 abbrev pub AreWritten : Config → Option Commit → Commit → (ℕ → List ℕ) → (ℕ → Content) → Type 0
-AreWritten c current next bytes_of value =
-    (id : ℕ) → IsTrue (is_written c current next id) → value (number_of id (index_in next id)) ≡ bytes (bytes_of id)
+AreWritten c current next bytes_of value = (id : ℕ) → IsTrue (is_written c current next id) → IsBlockWritten next bytes_of value id

@@ -1,20 +1,18 @@
 //! The writes of a save: the used blocks whose bytes changed, then both copies of the commit.
-ghost use Rattle.std.specs.Prelude.{◌≡◌, ℕ, ◌≤◌, ◌<◌, ◌+◌, ◌*◌, if◌then◌else◌, length, IsTrue, IsFalse, OnOk, IfOk, Some};
-ghost use Rattle.flt_flash.specs.Content.{bytes as holding};
+ghost use Rattle.std.specs.Prelude.{◌≡◌, ℕ, ◌≤◌, ◌<◌, ◌+◌, if◌then◌else◌, length, IsTrue, IsFalse, OnOk, Some};
 ghost use Rattle.flt_flash.specs.Blocks.{record_pages};
 ghost use Rattle.flt_nvm.specs.Driver.{driver_of, table_of};
-ghost use Rattle.flt_config.specs.Durable.{Fits};
-ghost use Rattle.flt_store_model.specs.Layout.{first_part, parts, end_part, number_of, mark_number, index_in, used_ids};
+ghost use Rattle.flt_store_model.specs.Layout.{first_part, parts, end_part};
 ghost use Rattle.flt_store_model.specs.Form.{block_bytes};
-ghost use Rattle.flt_store_model.specs.Holding.{Generation, OldOrNew, SameApplications, last_number};
-ghost use Rattle.flt_store_model.specs.Successor.{IsNext, OnlyNewBlock, OnlyNewBlocks, WritesWithin, is_moved, is_written, number_in};
-ghost use Rattle.flt_image.specs.Blocks.{bytes_at, AreBlocksOf};
+ghost use Rattle.flt_store_model.specs.Holding.{Generation};
+ghost use Rattle.flt_store_model.specs.Successor.{OnlyNewBlock, OnlyNewBlocks, is_moved, is_written};
+ghost use Rattle.flt_image.specs.Blocks.{bytes_at};
 ghost use Rattle.flt_image.specs.Table.{block_table};
-ghost use Rattle.flt_store.specs.Cause.{IsWithinOwn, Writes};
-ghost use Rattle.flt_store.specs.Cost.{Spends, pages_to_write, written_sum};
-ghost use Rattle.flt_store.specs.Known.{MayKnow};
-ghost use Rattle.flt_store.specs.Started.{IsStarted, next_generation};
-ghost use Rattle.flt_store.specs.Writing.{AreCopiesOf, AreSized, AreWritten};
+ghost use Rattle.flt_store.specs.Cause.{Writes};
+ghost use Rattle.flt_store.specs.Cost.{Spends, weight_written, written_sum};
+ghost use Rattle.flt_store.specs.Saving.{AreWritable, CanSaveBehind, FormsNext, IsKnownCurrent, SpendsOnSave, WritesBehind, WritesGeneration, WritesOwn};
+ghost use Rattle.flt_store.specs.Started.{next_generation};
+ghost use Rattle.flt_store.specs.Writing.{AreWritten, IsBlockWritten};
 
 use flt_config::{Persist, ValidConfig};
 use flt_flash::{BlockFault, Blocks};
@@ -52,19 +50,15 @@ fn write_moved<B: Blocks + Drop>(
     id: u16,
 ) -> Result<(), BlockFault>
     requires table { table_of nvm.old ≡ block_table }
-    requires moves { WritesWithin config.now current.now next.now }
-    requires sizes { AreSized config.now (bytes_at blocks.now) }
+    requires writable { AreWritable config.now current.now next.now (bytes_at blocks.now) }
     requires first { first_part ≤ id }
     requires end { id < end_part }
-    ensures written { OnOk result (IsTrue (is_written config.now current.now next.now id)
-        → (driver_of nvm.new).value (number_of id (index_in next.now id)) ≡ holding (bytes_at blocks.now id)) }
+    ensures written { OnOk result (IsTrue (is_written config.now current.now next.now id) → IsBlockWritten next.now (bytes_at blocks.now) (driver_of nvm.new).value id) }
     ensures only { OnlyNewBlock config.now current.now next.now (bytes_at blocks.now) id (driver_of nvm.old).value (driver_of nvm.new).value }
-    ensures within { IsWithinOwn config.now (driver_of nvm.old).value (driver_of nvm.new).value }
+    ensures own { WritesOwn config.now (driver_of nvm.old) (driver_of nvm.new) result }
     ensures spends { (most : ℕ) → Spends most (driver_of nvm.old) (driver_of nvm.new)
-        (if is_written config.now current.now next.now id then record_pages (length (bytes_at blocks.now id)) else 0)
-        (if is_written config.now current.now next.now id then most else 0) }
-    ensures not_stale { IsFalse (driver_of nvm.old).is_stale → OnOk result (IsFalse (driver_of nvm.new).is_stale) }
-    ensures writes { Writes (driver_of nvm.old) (driver_of nvm.new) result }
+        (weight_written config.now current.now next.now (λ id. record_pages (length (bytes_at blocks.now id))) id)
+        (weight_written config.now current.now next.now (λ id. most) id) }
     ensures table { table_of nvm.new ≡ table_of nvm.old }
 {
     if is_written(config, current, next, id) {
@@ -83,16 +77,13 @@ fn write_blocks<B: Blocks + Drop>(
     blocks: &StateBlocks,
 ) -> Result<(), BlockFault>
     requires table { table_of nvm.old ≡ block_table }
-    requires moves { WritesWithin config.now current.now next.now }
-    requires sizes { AreSized config.now (bytes_at blocks.now) }
+    requires writable { AreWritable config.now current.now next.now (bytes_at blocks.now) }
     ensures written { OnOk result (AreWritten config.now current.now next.now (bytes_at blocks.now) (driver_of nvm.new).value) }
     ensures only { OnlyNewBlocks config.now current.now next.now (bytes_at blocks.now) (driver_of nvm.old).value (driver_of nvm.new).value }
-    ensures within { IsWithinOwn config.now (driver_of nvm.old).value (driver_of nvm.new).value }
+    ensures own { WritesOwn config.now (driver_of nvm.old) (driver_of nvm.new) result }
     ensures spends { (most : ℕ) → IsFalse (driver_of nvm.old).is_stale → Spends most (driver_of nvm.old) (driver_of nvm.new)
         (written_sum config.now current.now next.now (λ id. record_pages (length (bytes_at blocks.now id))) parts)
         (written_sum config.now current.now next.now (λ id. most) parts) }
-    ensures not_stale { IsFalse (driver_of nvm.old).is_stale → OnOk result (IsFalse (driver_of nvm.new).is_stale) }
-    ensures writes { Writes (driver_of nvm.old) (driver_of nvm.new) result }
     ensures table { table_of nvm.new ≡ table_of nvm.old }
 {
     for id in FIRST_PART..END_PART {
@@ -112,22 +103,12 @@ pub(crate) fn write_generation<B: Blocks + Drop>(
     blocks: &mut StateBlocks,
 ) -> Result<Commit, BlockFault>
     requires table { table_of nvm.old ≡ block_table }
-    requires number { number_in current.now < last_number }
-    requires fits { Fits config.now state.now }
-    ensures done { (g : Generation) → IsStarted config.now (driver_of nvm.old).value current.now g → MayKnow config.now current.now (bytes_at saved.now) g.state
-        → IfOk result (λ commit. IsStarted config.now (driver_of nvm.new).value (Some commit) (next_generation current.now state.now)) }
-    ensures either { (g : Generation) → IsStarted config.now (driver_of nvm.old).value current.now g
-        → MayKnow config.now current.now (bytes_at saved.now) g.state
-        → OldOrNew config.now (driver_of nvm.new).value g g (next_generation current.now state.now) }
-    ensures spends { (most : ℕ) → IsFalse (driver_of nvm.old).is_stale → Spends most (driver_of nvm.old) (driver_of nvm.new)
-        (6 + pages_to_write config.now current.now (bytes_at saved.now) (block_bytes state.now)) ((length (used_ids config.now) + 2) * most) }
-    ensures not_stale { OnOk result (IsFalse (driver_of nvm.new).is_stale) }
-    ensures next { IfOk result (IsNext config.now current.now (bytes_at saved.now) (bytes_at blocks.new)) }
-    ensures encodes { AreBlocksOf config.now state.now (bytes_at blocks.new) }
-    ensures rewritten { IfOk result (λ commit. AreCopiesOf commit (driver_of nvm.new).value) }
-    ensures applications { SameApplications (driver_of nvm.old).value (driver_of nvm.new).value }
-    ensures mark { (driver_of nvm.new).value mark_number ≡ (driver_of nvm.old).value mark_number }
-    ensures writes { Writes (driver_of nvm.old) (driver_of nvm.new) result }
+    requires can { CanSaveBehind config.now current.now state.now }
+    ensures behind { (g : Generation) → IsKnownCurrent config.now (driver_of nvm.old).value current.now (bytes_at saved.now) g
+        → WritesBehind config.now g (next_generation current.now state.now) (driver_of nvm.new).value result }
+    ensures forms { FormsNext config.now current.now (bytes_at saved.now) state.now (bytes_at blocks.new) (driver_of nvm.new).value result }
+    ensures spends { SpendsOnSave config.now current.now (bytes_at saved.now) (block_bytes state.now) (driver_of nvm.old) (driver_of nvm.new) }
+    ensures writes { WritesGeneration (driver_of nvm.old) (driver_of nvm.new) result }
     ensures table { table_of nvm.new ≡ table_of nvm.old }
 {
     blocks.put_all(config, state);

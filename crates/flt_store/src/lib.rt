@@ -2,7 +2,7 @@
 //!
 //! It stands on `flt_nvm`, by whose calls it reads and writes, on `flt_image` for the bytes, and on the definitions of
 //! `flt_store_model`. The contract that the layer above uses is `Store`'s: whatever operation of the device fails, the image
-//! names the generation before or the new one. Read `specs/Store` first, then `specs/Started`.
+//! names the generation before or the new one. Read `specs/Store` first, then `specs/Saving` and `specs/Starting`.
 #![tactic(auto)]
 
 mod fault;

@@ -1,20 +1,12 @@
 //! Which generation stands after a save that failed, and the repair of the commit's copies.
-ghost use Rattle.std.specs.Prelude.{◌≡◌, ◌⊎◌, ℕ, ◌-◌, ◌≤◌, length, IsFalse, IfOk, IfSome, IsErrOf, IsSome, OnOk, OnErr, Some};
+ghost use Rattle.std.specs.Prelude.{◌≡◌, ◌-◌, length, IsFalse, IfOk, OnOk, Some};
 ghost use Rattle.flt_flash.specs.Content.{bytes as holding};
-ghost use Rattle.flt_flash.specs.Calls.{Follows, OthersKept};
+ghost use Rattle.flt_flash.specs.Calls.{Follows};
 ghost use Rattle.flt_nvm.specs.Driver.{driver_of, table_of};
-ghost use Rattle.flt_nvm.specs.Leaves.{IsEither};
-ghost use Rattle.flt_nvm.specs.Reads.{IsUnmended};
-ghost use Rattle.flt_store_model.specs.Layout.{commit_id, number_of};
-ghost use Rattle.flt_store_model.specs.Form.{IsCommit};
-ghost use Rattle.flt_store_model.specs.Reading.{commit_in};
-ghost use Rattle.flt_store_model.specs.Holding.{Generation, Holds, IsSound, OldOrNew};
+ghost use Rattle.flt_store_model.specs.Holding.{Generation, Holds, IsSound};
 ghost use Rattle.flt_image.specs.Table.{block_table};
-ghost use Rattle.flt_store.specs.Cause.{IsWithinOwn, Writes};
-ghost use Rattle.flt_store.specs.Dark.{IsUnrestarted};
-ghost use Rattle.flt_store.specs.Keeping.{IsOfFirst};
-ghost use Rattle.flt_store.specs.Spent.{IsCommitStuck};
-ghost use Rattle.flt_store.specs.Started.{HasMark, IsStarted, AgreeButForCommit, StartsEither};
+ghost use Rattle.flt_store.specs.Restarting.{HasReadCopy, IsCommitFound, IsCommitRead, RepairsCopy, Restarts, WritesOtherCopy};
+ghost use Rattle.flt_store.specs.Started.{AgreeButForCommit};
 
 use flt_config::ValidConfig;
 use flt_flash::{BlockFault, Blocks};
@@ -32,19 +24,12 @@ pub(crate) fn restart<B: Blocks + Drop>(
 ) -> Result<Option<Commit>, BlockFault>
     requires table { table_of nvm.old ≡ block_table }
     requires sound { (held : Generation) × (spare : Generation) × IsSound config.now (driver_of nvm.old).value held spare }
-    ensures started { (held spare : Generation) → IsSound config.now (driver_of nvm.old).value held spare → HasMark config.now (driver_of nvm.old).value
-        → IfOk result (λ commit. StartsEither config.now (driver_of nvm.old) (driver_of nvm.new) commit held spare) }
-    ensures failed { (held spare new : Generation) → IsSound config.now (driver_of nvm.old).value held spare
-        → OnErr result (OldOrNew config.now (driver_of nvm.new).value held spare new) }
-    ensures unrestarted { (held spare : Generation) → IsSound config.now (driver_of nvm.old).value held spare → IsErrOf result BlockFault.Flash
-        → IsUnrestarted (driver_of nvm.old) (driver_of nvm.new) }
-    ensures writes { (held spare : Generation) → IsSound config.now (driver_of nvm.old).value held spare
-        → Writes (driver_of nvm.old) (driver_of nvm.new) result }
-    ensures kept { AgreeButForCommit (driver_of nvm.old).value (driver_of nvm.new).value }
-    ensures form { IfOk result (λ commit. IfSome commit (IsCommit config.now)) }
-    ensures first { IfOk result (IsOfFirst config.now (driver_of nvm.old) (driver_of nvm.new)) }
+    ensures restarts { (held spare : Generation) → IsSound config.now (driver_of nvm.old).value held spare
+        → Restarts config.now held spare (driver_of nvm.old) (driver_of nvm.new) result }
+    ensures found { IfOk result (IsCommitFound config.now (driver_of nvm.old) (driver_of nvm.new)) }
+    ensures commit_alone { AgreeButForCommit (driver_of nvm.old).value (driver_of nvm.new).value }
     ensures not_stale { OnOk result (IsFalse (driver_of nvm.new).is_stale) }
-    ensures follows { Follows (driver_of nvm.old) (driver_of nvm.new) }
+    ensures calls { Follows (driver_of nvm.old) (driver_of nvm.new) }
     ensures table { table_of nvm.new ≡ table_of nvm.old }
 {
     let mut out = [0; 128];
@@ -63,24 +48,13 @@ fn repair_by<B: Blocks + Drop>(
     bytes: &[u8],
 ) -> Result<Commit, BlockFault>
     requires table { table_of nvm.old ≡ block_table }
-    requires least { 1 ≤ copy }
-    requires most { copy ≤ 2 }
-    requires held { (driver_of nvm.old).value (number_of commit_id (copy - 1)) ≡ holding bytes.now }
-    requires read { IsSome (commit_in config.now bytes.now) }
-    ensures started { (g : Generation) → HasMark config.now (driver_of nvm.old).value → Holds config.now (driver_of nvm.old).value (holding bytes.now) g
-        → IfOk result (λ commit. IsStarted config.now (driver_of nvm.new).value (Some commit) g) }
-    ensures read { IfOk result (λ commit. commit_in config.now bytes.now ≡ Some commit) }
-    ensures form { IfOk result (IsCommit config.now) }
+    requires has { HasReadCopy config.now (driver_of nvm.old).value copy bytes.now }
+    ensures repairs { (g : Generation) → Holds config.now (driver_of nvm.old).value (holding bytes.now) g
+        → RepairsCopy config.now g copy bytes.now (driver_of nvm.old) (driver_of nvm.new) result }
+    ensures read { IfOk result (IsCommitRead config.now bytes.now) }
+    ensures other { WritesOtherCopy config.now copy bytes.now (driver_of nvm.old) (driver_of nvm.new) result }
     ensures not_stale { OnOk result (IsFalse (driver_of nvm.new).is_stale) }
-    ensures other { IsEither (driver_of nvm.old) (driver_of nvm.new) (number_of commit_id (2 - copy)) (holding bytes.now) }
-    ensures others { OthersKept (number_of commit_id (2 - copy)) (driver_of nvm.old) (driver_of nvm.new) }
-    ensures within { IsWithinOwn config.now (driver_of nvm.old).value (driver_of nvm.new).value }
-    ensures unmended { (g : Generation) → Holds config.now (driver_of nvm.old).value (holding bytes.now) g
-        → IsErrOf result BlockFault.Flash → IsUnmended (driver_of nvm.old) (driver_of nvm.new) (number_of commit_id (2 - copy)) (holding bytes.now) }
-    ensures stuck { IsErrOf result BlockFault.SequenceSpent → IsCommitStuck (driver_of nvm.old) (driver_of nvm.new) }
-    ensures writes { (g : Generation) → Holds config.now (driver_of nvm.old).value (holding bytes.now) g
-        → Writes (driver_of nvm.old) (driver_of nvm.new) result }
-    ensures follows { Follows (driver_of nvm.old) (driver_of nvm.new) }
+    ensures calls { Follows (driver_of nvm.old) (driver_of nvm.new) }
     ensures table { table_of nvm.new ≡ table_of nvm.old }
 {
     let Some(commit) = get_commit(config, bytes) else {

@@ -1,22 +1,19 @@
 //! Generations in the blocks of a driver.
-ghost use Rattle.std.specs.Prelude.{◌≡◌, ◌≢◌, ◌⊎◌, ◌+◌, ◌*◌, ◌<◌, ℕ, length, Err, IsErr, IsErrOf, IsOk, IfOk, OnOk, OnErr, IsTrue, IsFalse};
+ghost use Rattle.std.specs.Prelude.{◌≡◌, ◌+◌, ◌<◌, Err, IsErrOf, OnErr, IsTrue, IsFalse};
 ghost use Rattle.flt_flash.specs.State.{CanArm};
-ghost use Rattle.flt_flash.specs.Calls.{ArmsDriver, CostsAtMost, Follows, NoErase, NoFault, PowersUpDriver};
+ghost use Rattle.flt_flash.specs.Calls.{ArmsDriver, Follows, PowersUpDriver};
 ghost use Rattle.flt_nvm.specs.Driver.{driver_of as driver_beneath, table_of};
 ghost use Rattle.flt_config.specs.declared.config.Config.{Config};
 ghost use Rattle.flt_config.specs.declared.persist.Persist.{Persist};
 ghost use Rattle.flt_config.specs.Durable.{Fits};
 ghost use Rattle.flt_store_model.specs.Form.{block_bytes};
-ghost use Rattle.flt_store_model.specs.Layout.{numbers, used_ids};
-ghost use Rattle.flt_store_model.specs.Holding.{Generation, OldOrNew, SameApplications, last_number};
-ghost use Rattle.flt_store_model.specs.Successor.{changed_pages, number_in};
+ghost use Rattle.flt_store_model.specs.Layout.{numbers};
+ghost use Rattle.flt_store_model.specs.Holding.{Generation, SameApplications};
+ghost use Rattle.flt_store_model.specs.Successor.{number_in};
 ghost use Rattle.flt_image.specs.Table.{block_table};
-ghost use Rattle.flt_store.specs.Cause.{FailsThrice, IsStuck};
-ghost use Rattle.flt_store.specs.Cost.{Spends, pages_to_write};
-ghost use Rattle.flt_store.specs.Keeping.{AreRewritten, KeepsFrom, KeepsPlaces, StandAtZero};
-ghost use Rattle.flt_store.specs.Known.{Knows, KnowsNamed};
-ghost use Rattle.flt_store.specs.Dark.{IsUnrestarted, IsUnsaved};
-ghost use Rattle.flt_store.specs.Started.{HasMark, IsStarted};
+ghost use Rattle.flt_store.specs.Cause.{IsStuck};
+ghost use Rattle.flt_store.specs.Known.{Knows};
+ghost use Rattle.flt_store.specs.Started.{HasMark};
 
 mod applications;
 mod starting;
@@ -58,8 +55,9 @@ fn number_in(commit: &Option<Commit>) -> u32
 }
 
 impl<B: Blocks + Drop> Store<B> {
-    ghost use Rattle.flt_store.specs.Store.{driver_of, commit_of, kept_of, is_settled, numbered, IsAlive, IsReady, IsRunning, IsLast};
-    ghost use Rattle.flt_store.specs.Store.{IsUndisturbed, IsUnhindered, MayHaveSaved, Saves, Chooses, WhileRunning};
+    ghost use Rattle.flt_store.specs.Store.{driver_of, commit_of, kept_of, is_settled, IsAlive, IsReady, IsRunning, WhileRunning};
+    ghost use Rattle.flt_store.specs.Leaving.{LeavesDriver};
+    ghost use Rattle.flt_store.specs.Saving.{AnswersSave, CausesOfSave, DoesNothing, FindsGeneration, SavesBehind, SettlesStore, SpendsOnSave, WritesChanges};
 
     /// A store over the blocks of an image: the table is `block_table`'s, over a driver that was made with `fee_numbers`. It is
     /// not started.
@@ -79,21 +77,13 @@ impl<B: Blocks + Drop> Store<B> {
 
     /// Finds out which generation stands, and what its blocks have, where a save failed.
     fn settle(&mut self, config: &ValidConfig) -> Result<(), SaveFault>
-        requires { IsAlive config.now self.old }
-        ensures settles { WhileRunning config.now self.old (λ held spare. OnOk result (Chooses config.now held spare self.old self.new)) }
-        ensures failed { (state : Persist)
-            → WhileRunning config.now self.old (λ held spare. OnErr result (MayHaveSaved config.now held spare state self.old self.new)) }
-        ensures flash { WhileRunning config.now self.old (λ held spare. IsErrOf result SaveFault.Flash
-            → FailsThrice (driver_of self.old) (driver_of self.new)) }
-        ensures unrestarted { WhileRunning config.now self.old (λ held spare. IsErrOf result SaveFault.Flash
-            → IsUnrestarted (driver_of self.old) (driver_of self.new)) }
+        requires alive { IsAlive config.now self.old }
+        ensures finds { WhileRunning config.now self.old (λ held spare. FindsGeneration config.now held spare self.old self.new result) }
+        ensures at_once { IsTrue (is_settled self.old) → DoesNothing self.old self.new result }
         ensures not_spent { IsErrOf result SaveFault.Spent → ⊥ }
-        ensures at_once { IsTrue (is_settled self.old) → IsErr result → ⊥ }
-        ensures sequence { WhileRunning config.now self.old (λ held spare. IsErrOf result SaveFault.SequenceSpent → IsStuck (driver_of self.new)) }
-        ensures applications { SameApplications (driver_of self.old).value (driver_of self.new).value }
         ensures unsettled { OnErr result (IsFalse (is_settled self.new)) }
-        ensures still { IsTrue (is_settled self.old) → self.new ≡ self.old }
-        ensures follows { Follows (driver_of self.old) (driver_of self.new) }
+        ensures applications { SameApplications (driver_of self.old).value (driver_of self.new).value }
+        ensures calls { Follows (driver_of self.old) (driver_of self.new) }
     {
         if self.is_settled {
             return Ok(());
@@ -106,30 +96,14 @@ impl<B: Blocks + Drop> Store<B> {
 
     /// Saves a state as the next generation, where both copies of the commit name one.
     fn save_next(&mut self, config: &ValidConfig, state: &Persist) -> Result<u32, SaveFault>
-        requires { Fits config.now state.now }
-        ensures saved { (g : Generation) → IsReady config.now g self.old
-            → IfOk result (λ number. (number ≡ g.number + 1) × IsRunning config.now (numbered number state.now) (numbered number state.now) self.new) }
-        ensures failed { (g : Generation) → IsReady config.now g self.old
-            → OnErr result (OldOrNew config.now (driver_of self.new).value g g (numbered (g.number + 1) state.now)) }
-        ensures flash { (g : Generation) → IsReady config.now g self.old
-            → IsErrOf result SaveFault.Flash → FailsThrice (driver_of self.old) (driver_of self.new) }
-        ensures spent { (g : Generation) → IsReady config.now g self.old
-            → IsErrOf result SaveFault.Spent → (g.number ≡ last_number) × IsStarted config.now (driver_of self.new).value (commit_of self.new) g }
-        ensures last { (g : Generation) → IsReady config.now g self.old → g.number ≡ last_number → result ≡ Err SaveFault.Spent }
+        requires fits { Fits config.now state.now }
+        ensures behind { (g : Generation) → IsReady config.now g self.old → SavesBehind config.now g state.now self.old self.new result }
         ensures sequence { IsErrOf result SaveFault.SequenceSpent → IsStuck (driver_of self.new) }
+        ensures spends { (g : Generation) → Knows config.now (kept_of self.old) g.state
+            → SpendsOnSave config.now (commit_of self.old) (block_bytes g.state) (block_bytes state.now) (driver_of self.old) (driver_of self.new) }
         ensures mark { HasMark config.now (driver_of self.old).value → HasMark config.now (driver_of self.new).value }
-        ensures applications { SameApplications (driver_of self.old).value (driver_of self.new).value }
-        ensures settled { OnOk result (IsTrue (is_settled self.new)) }
-        ensures unsettled { OnErr result (IsFalse (is_settled self.new)) }
-        ensures places { (g : Generation) → IsReady config.now g self.old → KnowsNamed config.now (commit_of self.old) (kept_of self.old) g.state
-            → OnOk result (KeepsFrom config.now g.state state.now (commit_of self.old) (driver_of self.new).value) }
-        ensures first { (g : Generation) → IsReady config.now g self.old → g.number ≡ 0 → OnOk result (StandAtZero config.now (driver_of self.new).value) }
-        ensures rewritten { (g : Generation) → IsReady config.now g self.old → OnOk result (AreRewritten config.now (driver_of self.new).value) }
-        ensures spends { (g : Generation) (most : ℕ) → Knows config.now (kept_of self.old) g.state → IsFalse (driver_of self.old).is_stale
-            → Spends most (driver_of self.old) (driver_of self.new)
-            (6 + pages_to_write config.now (commit_of self.old) (block_bytes g.state) (block_bytes state.now)) ((length (used_ids config.now) + 2) * most) }
-        ensures not_stale { OnOk result (IsFalse (driver_of self.new).is_stale) }
-        ensures follows { Follows (driver_of self.old) (driver_of self.new) }
+        ensures settles { SettlesStore self.new result }
+        ensures driver { LeavesDriver (driver_of self.old) (driver_of self.new) result }
     {
         self.is_settled = false;
         if number_in(&self.commit) == LAST_NUMBER {
@@ -159,45 +133,18 @@ impl<B: Blocks + Drop> Store<B> {
     /// `Spent` comes where the generation before has the number 2^32 - 1; so it does where the flash failed less than three times, unless
     /// an earlier save failed and the copies can't be made equal for want of a sequence number. It is `Ok` where that has another number,
     /// the flash failed less than three times and a sequence number is left.
+    ///
+    /// At `Err` the store still runs. After `Flash` save again, with the newest state. After `Spent` or `SequenceSpent` only another
+    /// image takes more generations.
     pub fn save(&mut self, config: &ValidConfig, state: &Persist) -> Result<u32, SaveFault>
         requires alive { IsAlive config.now self.old }
         requires fits { Fits config.now state.now }
         ensures alive { IsAlive config.now self.new }
-        ensures saved { WhileRunning config.now self.old (λ held spare. IfOk result
-            (λ number. Saves config.now held spare state.now number self.old self.new)) }
-        ensures failed { WhileRunning config.now self.old (λ held spare. OnErr result (MayHaveSaved config.now held spare state.now self.old self.new)) }
-        ensures flash { WhileRunning config.now self.old (λ held spare. IsErrOf result SaveFault.Flash
-            → FailsThrice (driver_of self.old) (driver_of self.new)) }
-        ensures unsaved { WhileRunning config.now self.old (λ held spare. IsErrOf result SaveFault.Flash
-            → IsUnsaved config.now (is_settled self.old) (driver_of self.old) (driver_of self.new)) }
-        ensures spent { WhileRunning config.now self.old (λ held spare. IsErrOf result SaveFault.Spent → IsLast config.now held spare self.old self.new) }
-        ensures last { WhileRunning config.now self.old (λ held spare. IsUndisturbed self.old self.new → held.number ≡ last_number
-            → (result ≡ Err SaveFault.Spent) ⊎ (IsFalse (is_settled self.old) × IsErrOf result SaveFault.SequenceSpent)) }
-        ensures sequence { WhileRunning config.now self.old (λ held spare. IsErrOf result SaveFault.SequenceSpent → IsStuck (driver_of self.new)) }
-        ensures completed { WhileRunning config.now self.old (λ held spare. held.number ≢ last_number → IsUnhindered self.old self.new → IsOk result) }
-        ensures applications { SameApplications (driver_of self.old).value (driver_of self.new).value }
-        ensures settled { OnOk result (IsTrue (is_settled self.new)) }
-        ensures unsettled { OnErr result (IsFalse (is_settled self.new)) }
-
-        // A block whose bytes stayed stands where it stood; where a save failed before, unless the flash failed three times in this one.
-        // The first save writes each block at index 0.
-        ensures places { WhileRunning config.now self.old (λ held spare. IsUndisturbed self.old self.new
-            → OnOk result (KeepsPlaces config.now held.state state.now (driver_of self.old).value (driver_of self.new).value)) }
-        ensures first { WhileRunning config.now self.old (λ held spare. held.number ≡ 0 → OnOk result (StandAtZero config.now (driver_of self.new).value)) }
-
-        // The commit is written in version 2, also where that before it stood in version 1.
-        ensures rewritten { WhileRunning config.now self.old (λ held spare. OnOk result (AreRewritten config.now (driver_of self.new).value)) }
-
-        // What a save costs that follows no failed one.
-        ensures by_changes { WhileRunning config.now self.old (λ held spare. IsTrue (is_settled self.old) → held.number ≢ 0
-            → IsFalse (driver_of self.old).is_stale
-            → NoFault (driver_of self.old) (driver_of self.new) → NoErase (driver_of self.old) (driver_of self.new)
-            → CostsAtMost (6 + changed_pages config.now (block_bytes held.state) (block_bytes state.now)) (driver_of self.old) (driver_of self.new)) }
-        ensures at_most { WhileRunning config.now self.old (λ held spare. IsTrue (is_settled self.old) → IsFalse (driver_of self.old).is_stale
-            → NoFault (driver_of self.old) (driver_of self.new)
-            → CostsAtMost ((length (used_ids config.now) + 2) * (2 * config.now.pages + 4)) (driver_of self.old) (driver_of self.new)) }
-        ensures not_stale { OnOk result (IsFalse (driver_of self.new).is_stale) }
-        ensures follows { Follows (driver_of self.old) (driver_of self.new) }
+        ensures answers { WhileRunning config.now self.old (λ held spare. AnswersSave config.now held spare state.now self.old self.new result) }
+        ensures causes { WhileRunning config.now self.old (λ held spare. CausesOfSave config.now held spare self.old self.new result) }
+        ensures changes { WhileRunning config.now self.old (λ held spare. WritesChanges config.now held state.now self.old self.new result) }
+        ensures settles { SettlesStore self.new result }
+        ensures driver { LeavesDriver (driver_of self.old) (driver_of self.new) result }
     {
         self.settle(config)?;
         self.save_next(config, state)

@@ -7,6 +7,7 @@ ghost use Rattle.flt_nvm.specs.Leaves.{FlashTakesThree, Gives, GotOf};
 ghost use Rattle.flt_store_model.specs.Form.{application_length};
 ghost use Rattle.flt_store_model.specs.Layout.{applications, application_number};
 ghost use Rattle.flt_image.specs.Table.{block_table};
+ghost use Rattle.flt_store.specs.Applications.{CanPut};
 ghost use Rattle.flt_store.specs.Cause.{Writes};
 
 use super::Store;
@@ -30,9 +31,7 @@ fn write_application<B: Blocks + Drop>(
     bytes: &[u8],
 ) -> Result<(), BlockFault>
     requires table { table_of nvm.old ≡ block_table }
-    requires block { block < applications }
-    requires least { 1 ≤ length bytes.now }
-    requires most { length bytes.now ≤ application_length }
+    requires can { CanPut block bytes.now }
     ensures gives { Gives (driver_beneath nvm.old) (driver_beneath nvm.new) (application_number block) (holding bytes.now) (length bytes.now) result }
     ensures not_stale { OnOk result (IsFalse (driver_beneath nvm.new).is_stale) }
     ensures writes { Writes (driver_beneath nvm.old) (driver_beneath nvm.new) result }
@@ -57,34 +56,25 @@ fn read_application<B: Blocks + Drop>(
 }
 
 impl<B: Blocks + Drop> Store<B> {
-    ghost use Rattle.std.specs.Prelude.{ℕ, [], IsErrOf, IsOk, OnErr, IsTrue};
-    ghost use Rattle.flt_flash.specs.Calls.{Follows, OthersKept};
-    ghost use Rattle.flt_nvm.specs.Leaves.{IsEither};
+    ghost use Rattle.std.specs.Prelude.{[], OnErr};
+    ghost use Rattle.flt_flash.specs.Calls.{Follows};
     ghost use Rattle.flt_config.specs.declared.config.Config.{Config};
-    ghost use Rattle.flt_store.specs.Cause.{FailsThrice};
-    ghost use Rattle.flt_store.specs.Store.{driver_of, is_settled, Gets, IsAlive, IsRunning, IsUnhindered, WhileRunning};
+    ghost use Rattle.flt_store.specs.Applications.{GetsWhileRunning, PutsBlock, PutsWhileRunning};
+    ghost use Rattle.flt_store.specs.Store.{driver_of, is_settled, IsAlive, WhileRunning};
 
     /// Puts 1 to 32 bytes into application block `block`, of a store that runs, and below the configuration's number of blocks.
     ///
     /// After `Ok` the block holds them; after an error it holds what it held or them. No other block and no generation changes.
     /// `Flash` comes only where three tries failed, `SequenceSpent` only where the record can't be written any more; where neither
-    /// holds it is `Ok`.
+    /// holds it is `Ok`. At `Err` the store still runs: after `Flash` put the bytes again, after `SequenceSpent` only another image takes them.
     pub fn put_block(&mut self, block: u8, bytes: &[u8]) -> Result<(), PutFault>
         requires alive { (c : Config) × (block < c.blocks) × IsAlive c self.old }
-        requires block { block < applications }
-        requires least { 1 ≤ length bytes.now }
-        requires most { length bytes.now ≤ application_length }
-        ensures put { OnOk result ((driver_of self.new).value (application_number block) ≡ holding bytes.now) }
-        ensures either { IsEither (driver_of self.old) (driver_of self.new) (application_number block) (holding bytes.now) }
-        ensures others { OthersKept (application_number block) (driver_of self.old) (driver_of self.new) }
-        ensures running { (c : Config) → block < c.blocks → WhileRunning c self.old (λ held spare. IsRunning c held spare self.new) }
-        ensures flash { (c : Config) → block < c.blocks
-            → WhileRunning c self.old (λ held spare. IsErrOf result PutFault.Flash → FailsThrice (driver_of self.old) (driver_of self.new)) }
-        ensures sequence { IsErrOf result PutFault.SequenceSpent → IsTrue ((driver_of self.new).is_stuck (application_number block) (length bytes.now)) }
-        ensures completed { (c : Config) → block < c.blocks → WhileRunning c self.old (λ held spare. IsUnhindered self.old self.new → IsOk result) }
+        requires can { CanPut block bytes.now }
+        ensures puts { PutsBlock block bytes.now (driver_of self.old) (driver_of self.new) result }
+        ensures running { (c : Config) → block < c.blocks → WhileRunning c self.old (λ held spare. PutsWhileRunning c held spare self.old self.new result) }
         ensures settled { is_settled self.new ≡ is_settled self.old }
         ensures not_stale { OnOk result (IsFalse (driver_of self.new).is_stale) }
-        ensures follows { Follows (driver_of self.old) (driver_of self.new) }
+        ensures calls { Follows (driver_of self.old) (driver_of self.new) }
     {
         write_application(&mut self.nvm, block, bytes)?;
         Ok(())
@@ -92,7 +82,7 @@ impl<B: Blocks + Drop> Store<B> {
 
     /// Gives the bytes of application block `block` in place of what `out` held, and true; false and no byte, where it was never
     /// written. The store runs, and the block is below the configuration's number of blocks. The error comes only where three tries
-    /// failed; after it `out` is empty.
+    /// failed; after it `out` is empty, and the store still runs: get the block again.
     pub fn get_block(
         &mut self,
         block: u8,
@@ -100,16 +90,12 @@ impl<B: Blocks + Drop> Store<B> {
     ) -> Result<bool, FlashFailed>
         requires alive { (c : Config) × (block < c.blocks) × IsAlive c self.old }
         requires block { block < applications }
-        ensures got { (c : Config) → WhileRunning c self.old (λ held spare. IfOk result
-            (λ found. Gets ((driver_of self.old).value (application_number block)) found out.new.items)) }
+        ensures running { (c : Config) → WhileRunning c self.old (λ held spare. GetsWhileRunning c held spare block out.new.items self.old self.new result) }
         ensures empty { OnErr result (out.new.items ≡ []) }
-        ensures flash { (c : Config) → WhileRunning c self.old (λ held spare. OnErr result (FailsThrice (driver_of self.old) (driver_of self.new))) }
-        ensures completed { (c : Config) → WhileRunning c self.old (λ held spare. (FailsThrice (driver_of self.old) (driver_of self.new) → ⊥) → IsOk result) }
         ensures values { SameValues (driver_of self.old) (driver_of self.new) }
-        ensures running { (c : Config) → WhileRunning c self.old (λ held spare. IsRunning c held spare self.new) }
         ensures settled { is_settled self.new ≡ is_settled self.old }
-        ensures stays { IsFalse (driver_of self.old).is_stale → IsFalse (driver_of self.new).is_stale }
-        ensures follows { Follows (driver_of self.old) (driver_of self.new) }
+        ensures not_stale { IsFalse (driver_of self.old).is_stale → IsFalse (driver_of self.new).is_stale }
+        ensures calls { Follows (driver_of self.old) (driver_of self.new) }
     {
         let mut bytes = [0; 128];
         out.clear();

@@ -1,23 +1,21 @@
 //! Start-up: what the image holds, the mark written where it is due, and both copies of the commit made equal.
-ghost use Rattle.std.specs.Prelude.{◌≡◌, ◌⊎◌, IfOk, IfErr, IsErrOf, OnOk, OnErr, IsTrue, IsFalse, ◌↔◌};
-ghost use Rattle.flt_flash.specs.Content.{Content};
-ghost use Rattle.flt_flash.specs.Calls.{Follows, OthersKept, SameImage};
+ghost use Rattle.std.specs.Prelude.{◌≡◌, IfOk, IfErr, IsErrOf, OnOk, OnErr, IsTrue, IsFalse, ◌↔◌};
+ghost use Rattle.flt_flash.specs.Calls.{OthersKept, SameImage};
 ghost use Rattle.flt_nvm.specs.Driver.{driver_of as driver_beneath, table_of};
 ghost use Rattle.flt_config.specs.declared.config.Config.{Config};
 ghost use Rattle.flt_config.specs.Durable.{Fits};
 ghost use Rattle.flt_store_model.specs.Layout.{mark_number};
 ghost use Rattle.flt_store_model.specs.Form.{mark_of};
-ghost use Rattle.flt_store_model.specs.Excess.{IsBorne};
-ghost use Rattle.flt_store_model.specs.Holding.{Generation, IsSound, MarkAllows, OldOrNew, SameApplications};
+ghost use Rattle.flt_store_model.specs.Holding.{Generation};
 ghost use Rattle.flt_store_model.specs.Laws.{IsGiven};
 ghost use Rattle.flt_image.specs.Table.{block_table};
 ghost use Rattle.flt_restore.specs.Restored.{IsMarkDue};
-ghost use Rattle.flt_restore.specs.Unread.{IsImageUnread};
 ghost use Rattle.flt_store.specs.Cause.{HasRoom, Writes};
-ghost use Rattle.flt_store.specs.Started.{HasMark, IsMarkTried, IsStarted};
-ghost use Rattle.flt_store.specs.Start.{Begins, IsFoundIn};
-ghost use Rattle.flt_store.specs.Dark.{IsUnbegun, IsDark, IsMarkUnwritten, IsOfBlocks, IsMountedAlone};
-ghost use Rattle.flt_store.specs.Spent.{IsBegunStuck, IsMarkStuck, IsOutOfNumbers};
+ghost use Rattle.flt_store.specs.Start.{Begins};
+ghost use Rattle.flt_store.specs.Starting.{BeginsWith, HasRead, WritesMark};
+ghost use Rattle.flt_store.specs.Leaving.{LeavesDriver};
+ghost use Rattle.flt_store.specs.Dark.{IsDark, IsMountedAlone, IsUnready};
+ghost use Rattle.flt_store.specs.Spent.{IsBegunStuck};
 
 use super::{Store, number_in};
 use flt_config::{Persist, ValidConfig};
@@ -36,13 +34,9 @@ fn write_mark<B: Blocks + Drop>(
     requires table { table_of nvm.old ≡ block_table }
     requires due { IsTrue is_due ↔ IsMarkDue mark.now ((driver_beneath nvm.old).value mark_number) }
     requires not_stale { IsFalse (driver_beneath nvm.old).is_stale }
-    ensures marked { (c : Config) (commit : Content) → mark.now ≡ mark_of c → MarkAllows c ((driver_beneath nvm.old).value mark_number) commit
-        → OnOk result (HasMark c (driver_beneath nvm.new).value) }
-    ensures tried { (c : Config) → mark.now ≡ mark_of c → IsMarkTried c (driver_beneath nvm.old).value (driver_beneath nvm.new).value }
+    ensures mark { (c : Config) → mark.now ≡ mark_of c → WritesMark c (driver_beneath nvm.old) (driver_beneath nvm.new) result }
     ensures others { OthersKept mark_number (driver_beneath nvm.old) (driver_beneath nvm.new) }
     ensures not_stale { OnOk result (IsFalse (driver_beneath nvm.new).is_stale) }
-    ensures unwritten { (c : Config) → mark.now ≡ mark_of c → IsErrOf result BlockFault.Flash → IsMarkUnwritten c (driver_beneath nvm.old) (driver_beneath nvm.new) }
-    ensures stuck { (c : Config) → mark.now ≡ mark_of c → IsErrOf result BlockFault.SequenceSpent → IsMarkStuck c (driver_beneath nvm.old) (driver_beneath nvm.new) }
     ensures writes { Writes (driver_beneath nvm.old) (driver_beneath nvm.new) result }
     ensures table { table_of nvm.new ≡ table_of nvm.old }
 {
@@ -61,25 +55,13 @@ fn begin_by<B: Blocks + Drop>(
     found: Option<CommitCopy>,
 ) -> Result<Option<Commit>, BlockFault>
     requires table { table_of nvm.old ≡ block_table }
-    requires due { IsTrue is_mark_due ↔ IsMarkDue (mark_of config.now) ((driver_beneath nvm.old).value mark_number) }
-    requires found { IsFoundIn config.now (driver_beneath nvm.old).value found }
-    requires not_stale { IsFalse (driver_beneath nvm.old).is_stale }
-    ensures started { (g : Generation) → Begins config.now (driver_beneath nvm.old).value found g
-        → IfOk result (λ commit. IsStarted config.now (driver_beneath nvm.new).value commit g) }
-    ensures tried { (held spare g : Generation) → IsSound config.now (driver_beneath nvm.old).value held spare
-        → Begins config.now (driver_beneath nvm.old).value found g
-        → OnErr result (OldOrNew config.now (driver_beneath nvm.new).value held spare held) }
-    ensures unbegun { (g : Generation) → Begins config.now (driver_beneath nvm.old).value found g → IsErrOf result BlockFault.Flash
-        → IsUnbegun config.now (driver_beneath nvm.old) (driver_beneath nvm.new) }
+    requires read { HasRead config.now (driver_beneath nvm.old) is_mark_due found }
+    ensures begins { (g : Generation) → Begins config.now (driver_beneath nvm.old).value found g
+        → BeginsWith config.now g (driver_beneath nvm.old) (driver_beneath nvm.new) result }
     ensures stuck { IsErrOf result BlockFault.SequenceSpent → IsBegunStuck config.now (driver_beneath nvm.old) (driver_beneath nvm.new) }
-    ensures writes { (g : Generation) → Begins config.now (driver_beneath nvm.old).value found g
-        → Writes (driver_beneath nvm.old) (driver_beneath nvm.new) result }
-    ensures borne { (g : Generation) → Begins config.now (driver_beneath nvm.old).value found g → IsBorne config.now (driver_beneath nvm.new).value }
-    ensures not_stale { OnOk result (IsFalse (driver_beneath nvm.new).is_stale) }
-    ensures applications { SameApplications (driver_beneath nvm.old).value (driver_beneath nvm.new).value }
-    ensures follows { Follows (driver_beneath nvm.old) (driver_beneath nvm.new) }
+    ensures driver { LeavesDriver (driver_beneath nvm.old) (driver_beneath nvm.new) result }
     ensures table { table_of nvm.new ≡ table_of nvm.old }
-    ensures given { IsGiven config.now }
+    ensures valid { IsGiven config.now }
 {
     write_mark(nvm, &mark_of(config), is_mark_due)?;
     match found {
@@ -93,27 +75,20 @@ fn begin_by<B: Blocks + Drop>(
 
 impl<B: Blocks + Drop> Store<B> {
     ghost use Rattle.flt_store.specs.Store.{driver_of, is_settled, IsAlive};
-    ghost use Rattle.flt_store.specs.Start.{IsForeign, RefusedFor, Starts};
+    ghost use Rattle.flt_store.specs.Start.{IsForeign, Starts};
+    ghost use Rattle.flt_store.specs.Starting.{CausesOfRefusal, IsMountedFor};
+    ghost use Rattle.flt_store.specs.Saving.{SettlesStore};
+    ghost use Rattle.flt_store.specs.Leaving.{AddsNoGeneration};
 
     /// Starts up on a driver that was mounted.
     fn start_mounted(&mut self, config: &ValidConfig, out: &mut Persist) -> Result<u32, StartFault>
-        requires room { HasRoom config.now (driver_of self.old).room }
-        requires mounted { IsTrue (driver_of self.old).has_mounted }
-        requires not_stale { IsFalse (driver_of self.old).is_stale }
+        requires mounted { IsMountedFor config.now (driver_of self.old) }
         ensures started { IfOk result (λ number. Starts config.now number out.new self.old self.new) }
-        ensures refused { IfErr result (RefusedFor config.now self.old self.new) }
-        ensures unready { IsErrOf result StartFault.Flash
-            → IsImageUnread config.now (driver_of self.old) (driver_of self.new) ⊎ IsUnbegun config.now (driver_of self.old) (driver_of self.new) }
-        ensures unwritten { IfErr result (λ fault. IsOfBlocks fault → SameImage (driver_of self.old) (driver_of self.new)) }
-        ensures early { IsErrOf result StartFault.SequenceSpent → IsTrue (driver_of self.old).is_spent → SameImage (driver_of self.old) (driver_of self.new) }
-        ensures spent { IsErrOf result StartFault.SequenceSpent → IsOutOfNumbers config.now (driver_of self.old) (driver_of self.new) }
-        ensures left { (held spare : Generation) → IsSound config.now (driver_of self.old).value held spare
-            → OnErr result (OldOrNew config.now (driver_of self.new).value held spare held) }
         ensures fits { OnOk result (Fits config.now out.new) }
+        ensures causes { CausesOfRefusal (IsUnready config.now) SameImage config.now self.old self.new result }
+        ensures generations { AddsNoGeneration config.now (driver_of self.old) (driver_of self.new) result }
         ensures unsettled { IsFalse (is_settled self.old) → OnErr result (IsFalse (is_settled self.new)) }
-        ensures not_stale { OnOk result (IsFalse (driver_of self.new).is_stale) }
-        ensures applications { SameApplications (driver_of self.old).value (driver_of self.new).value }
-        ensures follows { Follows (driver_of self.old) (driver_of self.new) }
+        ensures driver { LeavesDriver (driver_of self.old) (driver_of self.new) result }
     {
         let found = restore(&mut self.nvm, config, out)?;
         let commit = begin_by(&mut self.nvm, config, found.is_mark_due, found.commit)?;
@@ -134,29 +109,20 @@ impl<B: Blocks + Drop> Store<B> {
     /// `SequenceSpent` comes where the last sequence number was in use before, or where the mark or a copy of the commit has to be
     /// written and can't be any more. After an error `out` holds anything that fits its type, and of a sound image each of the two
     /// generations is one of those before.
+    ///
+    /// At `Err` make no save and no put before a start-up that answers `Ok`. After `Flash` start up again, now or at the next power-up. After
+    /// `Damaged` or `SequenceSpent` another image is needed, and after `OtherConfig` another image or another configuration.
     pub fn start_up(&mut self, config: &ValidConfig, out: &mut Persist) -> Result<u32, StartFault>
         requires { HasRoom config.now (driver_of self.old).room }
         ensures started { IfOk result (λ number. Starts config.now number out.new self.old self.new) }
-        ensures refused { IfErr result (RefusedFor config.now self.old self.new) }
-        ensures dark { IsErrOf result StartFault.Flash → IsDark config.now (driver_of self.old) (driver_of self.new) }
-        ensures unwritten { IfErr result (λ fault. IsOfBlocks fault → IsMountedAlone (driver_of self.old) (driver_of self.new)) }
+        ensures fits { OnOk result (Fits config.now out.new) }
+        ensures causes { CausesOfRefusal (IsDark config.now) IsMountedAlone config.now self.old self.new result }
 
         // Over an image that is damaged or another configuration's no store runs, so no save and no put goes there.
         ensures closed { IfErr result (λ fault. IsForeign fault → IsAlive config.now self.new → ⊥) }
-
-        // Where the last sequence number was in use before, nothing is written but by the mount.
-        ensures early { IsErrOf result StartFault.SequenceSpent → IsTrue (driver_of self.old).is_spent
-            → IsMountedAlone (driver_of self.old) (driver_of self.new) }
-
-        // No start-up uses a sequence number and then answers that none is left.
-        ensures spent { IsErrOf result StartFault.SequenceSpent → IsOutOfNumbers config.now (driver_of self.old) (driver_of self.new) }
-        ensures left { (held spare : Generation) → IsSound config.now (driver_of self.old).value held spare
-            → OnErr result (OldOrNew config.now (driver_of self.new).value held spare held) }
-        ensures fits { OnOk result (Fits config.now out.new) }
-        ensures unsettled { OnErr result (IsFalse (is_settled self.new)) }
-        ensures not_stale { OnOk result (IsFalse (driver_of self.new).is_stale) }
-        ensures applications { SameApplications (driver_of self.old).value (driver_of self.new).value }
-        ensures follows { Follows (driver_of self.old) (driver_of self.new) }
+        ensures generations { AddsNoGeneration config.now (driver_of self.old) (driver_of self.new) result }
+        ensures settles { SettlesStore self.new result }
+        ensures driver { LeavesDriver (driver_of self.old) (driver_of self.new) result }
     {
         self.is_settled = false;
         self.nvm.start()?;

@@ -29,15 +29,15 @@ returns-clause-wrote g c = λ config same.
     let after = driver_of c.put_block.new.self in
     let result = c.put_block.result in
     let within : job.block < config.blocks = subst (λ n. job.block < n) (sym same) c.requires.job.0 in
-    let counts = c.put_block.ensures.follows.counts in
+    let counts = c.put_block.ensures.calls.counts in
     let put : WritesJob config job (is_ok result) c.args.store.now c.put_block.new.self = record {
-      all = on_ok result (after.value number ≡ holding job.bytes.items) (subst (λ l. OnOk result (after.value number ≡ holding l)) c.deref.ensures.0 c.put_block.ensures.put);
-      either = subst (λ l. IsEither before after number (holding l)) c.deref.ensures.0 c.put_block.ensures.either;
-      others = c.put_block.ensures.others;
-      running = c.put_block.ensures.running config within;
-      rose = λ held spare running unspent. rose_by result before.device.faults after.device.faults after.is_spent (c.put_block.ensures.flash config within held spare running)
-          (λ is. g.met.B.Blocks.stuck_is_spent c.put_block.new.self.nvm.blocks _ _ (c.put_block.ensures.sequence is)) counts unspent;
-      follows = c.put_block.ensures.follows;
+      all = on_ok result (after.value number ≡ holding job.bytes.items) (subst (λ l. OnOk result (after.value number ≡ holding l)) c.deref.ensures.0 c.put_block.ensures.puts.put);
+      either = subst (λ l. IsEither before after number (holding l)) c.deref.ensures.0 c.put_block.ensures.puts.either;
+      others = c.put_block.ensures.puts.others;
+      running = λ held spare running. (c.put_block.ensures.running config within held spare running).running;
+      rose = λ held spare running unspent. rose_by result before.device.faults after.device.faults after.is_spent (c.put_block.ensures.running config within held spare running).flash
+          (λ is. g.met.B.Blocks.stuck_is_spent c.put_block.new.self.nvm.blocks _ _ (c.put_block.ensures.puts.sequence is)) counts unspent;
+      follows = c.put_block.ensures.calls;
     } in
     subst (λ w. WritesJob config job w c.args.store.now c.put_block.new.self) (sym c.is_ok-written.ensures.value) put
 

@@ -1,9 +1,11 @@
-use Rattle.std.proofs.Common.{◌≡◌, ℕ, List, [], ◌∷◌, refl, rules}
+use Rattle.std.proofs.Common.{◌≡◌, ℕ, ◌≤◌, List, [], ◌∷◌, length, refl, subst, arith}
+use Rattle.std.specs.Prelude.{IsTrue}
+use Rattle.std.proofs.lemmas.Bool.{leb-true}
 use Rattle.flt_config.specs.declared.config.Config.{Config}
 use Rattle.flt_flash.specs.Calls.{SameValues}
 use Rattle.flt_flash.specs.Content.{Content}
 use Rattle.flt_flash.specs.declared.blocks.Blocks.{Ghosts}
-use Rattle.flt_store_model.specs.Holding.{Generation}
+use Rattle.flt_store_model.specs.Holding.{Generation, is_application}
 use Rattle.flt_store_model.specs.Layout.{application_number}
 use Rattle.flt_queue.specs.Queue.{History}
 use Rattle.flt_step.specs.declared.step.Step.TheVariants as steps
@@ -25,6 +27,7 @@ use Rattle.flt_lane.proofs.Carrying.{holds_deed, living_deed}
 use Rattle.flt_life_model.proofs.Keeping.{IsNoSave}
 use Rattle.flt_lane.proofs.Leaving.{leaves_by_calls}
 use Rattle.flt_lane.proofs.Stepping.{none_made, none_queued}
+use Rattle.flt_lane.proofs.step.get.Goals.{In-Ok-true}
 use Rattle.flt_lane.proofs.step.get.Goals as goal
 
 -- What a read carries on, by its answer.
@@ -40,19 +43,31 @@ read_carries c seat jobs earlier block told store now same runs no_save no_saves
   holds = λ alive first holds. holds_deed first jobs earlier (steps.Get block, told) (driver_of store).value (driver_of now).value (λ number below. same (application_number number)) no_drain no_job (gets alive first) holds;
 }
 
+-- An application block of a store that runs is no longer than one may be.
+short : (g : _) (c : In-Ok-true g) → length c.get_block.new.out.items ≤ 32
+short g c =
+    let alive = c.requires.alive.2 in
+    let content = (driver_of c.args.store.now).value (application_number c.args.block) in
+    let got = (c.in-Ok-true.ensures.running c.requires.alive.0 alive.held alive.spare alive.running).got in
+    let is = subst (λ d. IsTrue (is_application d)) (gets_bytes content c.in-Ok-true.field-0 _ got c.in-Ok-true.field-0-test) (alive.running.sound.holds.applications c.args.block c.requires.block) in
+    omega (arith, leb-true (length c.get_block.new.out.items) 32 is)
+
+pub keep-requires-clause-responses : goal.keep-requires-clause-responses
+keep-requires-clause-responses g c = let room = c.requires.room.responses in omega (arith, room, short g (goal.at.keep-requires-clause-responses g c).In-Ok-true)
+
 pub returns-in-Ok-true : goal.returns-in-Ok-true
 returns-in-Ok-true g c = record {
   takes = λ config seat jobs.
       let told : Told = answers.Bytes c.get_block.new.out in
       let kept = c.keep.ensures in
       takes_deed config seat seat jobs jobs (steps.Get c.args.block) told c.args.replies.now c.keep.new.self c.args.store.now c.get_block.new.self refl
-      (keeps_with c.args.replies.now c.keep.new.self (steps.Get c.args.block) (answers.Bytes c.get_block.new.out) [] [] refl kept.told kept.answers kept.room kept.responses kept.bytes (search rules))
+      (keeps_with c.args.replies.now c.keep.new.self (steps.Get c.args.block) (answers.Bytes c.get_block.new.out) [] [] refl kept.told kept.answers kept.room kept.responses kept.bytes (short g (goal.at.returns-in-Ok-true g c).In-Ok-true))
       (none_made seat (steps.Get c.args.block) told (tt, refl)) (none_queued jobs (steps.Get c.args.block) told refl)
-      (λ earlier. read_carries config seat jobs earlier c.args.block told c.args.store.now c.get_block.new.self c.get_block.ensures.values (c.get_block.ensures.running config) tt refl refl refl
-      (λ begun caused. caused_read config begun (answers_of earlier) c.args.store.now c.get_block.new.self caused told tt c.get_block.ensures.follows (c.get_block.ensures.running config caused.held_now caused.spare_now caused.running))
+      (λ earlier. read_carries config seat jobs earlier c.args.block told c.args.store.now c.get_block.new.self c.get_block.ensures.values (λ held spare running. (c.get_block.ensures.running config held spare running).running) tt refl refl refl
+      (λ begun caused. caused_read config begun (answers_of earlier) c.args.store.now c.get_block.new.self caused told tt c.get_block.ensures.calls (c.get_block.ensures.running config caused.held_now caused.spare_now caused.running).running)
       (λ alive first past held. held_by first past earlier (driver_of c.args.store.now).value c.args.block _ c.requires.block
-      (gets_bytes _ c.in-Ok-true.field-0 _ (c.in-Ok-true.ensures.got config alive.held alive.spare alive.running) c.in-Ok-true.field-0-test) held))
-      (leaves_by_calls c.args.store.now c.get_block.new.self c.get_block.ensures.follows);
+      (gets_bytes _ c.in-Ok-true.field-0 _ (c.in-Ok-true.ensures.running config alive.held alive.spare alive.running).got c.in-Ok-true.field-0-test) held))
+      (leaves_by_calls c.args.store.now c.get_block.new.self c.get_block.ensures.calls);
 }
 
 pub returns-in-Ok-false : goal.returns-in-Ok-false
@@ -63,11 +78,11 @@ returns-in-Ok-false g c = record {
       takes_deed config seat seat jobs jobs (steps.Get c.args.block) told c.args.replies.now c.keep-in-Ok-false.new.self c.args.store.now c.get_block.new.self refl
       (keeps c.args.replies.now c.keep-in-Ok-false.new.self (steps.Get c.args.block) answers.NoBlock kept.told kept.answers kept.room kept.responses kept.bytes refl)
       (none_made seat (steps.Get c.args.block) told (tt, refl)) (none_queued jobs (steps.Get c.args.block) told refl)
-      (λ earlier. read_carries config seat jobs earlier c.args.block told c.args.store.now c.get_block.new.self c.get_block.ensures.values (c.get_block.ensures.running config) tt refl refl refl
-      (λ begun caused. caused_read config begun (answers_of earlier) c.args.store.now c.get_block.new.self caused told tt c.get_block.ensures.follows (c.get_block.ensures.running config caused.held_now caused.spare_now caused.running))
+      (λ earlier. read_carries config seat jobs earlier c.args.block told c.args.store.now c.get_block.new.self c.get_block.ensures.values (λ held spare running. (c.get_block.ensures.running config held spare running).running) tt refl refl refl
+      (λ begun caused. caused_read config begun (answers_of earlier) c.args.store.now c.get_block.new.self caused told tt c.get_block.ensures.calls (c.get_block.ensures.running config caused.held_now caused.spare_now caused.running).running)
       (λ alive first past held. held_by first past earlier (driver_of c.args.store.now).value c.args.block _ c.requires.block
-      (gets_none _ c.in-Ok-false.field-0 _ (c.in-Ok-false.ensures.got config alive.held alive.spare alive.running) c.in-Ok-false.field-0-test) held))
-      (leaves_by_calls c.args.store.now c.get_block.new.self c.get_block.ensures.follows);
+      (gets_none _ c.in-Ok-false.field-0 _ (c.in-Ok-false.ensures.running config alive.held alive.spare alive.running).got c.in-Ok-false.field-0-test) held))
+      (leaves_by_calls c.args.store.now c.get_block.new.self c.get_block.ensures.calls);
 }
 
 pub returns-in-Err : goal.returns-in-Err
@@ -78,9 +93,9 @@ returns-in-Err g c = record {
       takes_deed config seat seat jobs jobs (steps.Get c.args.block) told c.args.replies.now c.keep-in-Err.new.self c.args.store.now c.get_block.new.self refl
       (keeps c.args.replies.now c.keep-in-Err.new.self (steps.Get c.args.block) answers.BlockFlash kept.told kept.answers kept.room kept.responses kept.bytes refl)
       (none_made seat (steps.Get c.args.block) told (tt, refl)) (none_queued jobs (steps.Get c.args.block) told refl)
-      (λ earlier. read_carries config seat jobs earlier c.args.block told c.args.store.now c.get_block.new.self c.get_block.ensures.values (c.get_block.ensures.running config) tt refl refl refl
-      (λ begun caused. caused_unread config begun (answers_of earlier) c.args.store.now c.get_block.new.self caused c.get_block.ensures.follows
-      (c.in-Err.ensures.flash config caused.held_now caused.spare_now caused.running) (c.get_block.ensures.running config caused.held_now caused.spare_now caused.running))
+      (λ earlier. read_carries config seat jobs earlier c.args.block told c.args.store.now c.get_block.new.self c.get_block.ensures.values (λ held spare running. (c.get_block.ensures.running config held spare running).running) tt refl refl refl
+      (λ begun caused. caused_unread config begun (answers_of earlier) c.args.store.now c.get_block.new.self caused c.get_block.ensures.calls
+      (c.in-Err.ensures.running config caused.held_now caused.spare_now caused.running).flash (c.get_block.ensures.running config caused.held_now caused.spare_now caused.running).running)
       (λ alive first past held. tt))
-      (leaves_by_calls c.args.store.now c.get_block.new.self c.get_block.ensures.follows);
+      (leaves_by_calls c.args.store.now c.get_block.new.self c.get_block.ensures.calls);
 }

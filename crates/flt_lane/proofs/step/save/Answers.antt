@@ -27,12 +27,12 @@ returns-in-Ok-saved-clause-takes g c = λ jobs.
     (λ earlier. record {
       alive = λ alive. c.save.ensures.alive;
       living = λ first start living. living_saved c.args.config.now c.args.seat.now c.snapshot.new.seat c.in-Ok._taken c.snapshot.new.out c.in-Ok.ensures.call.call c.in-Ok.ensures.state earlier c.args.store.now c.save.new.self
-          first start living c.saved.new.seat c.in-Ok-save.generation c.in-Ok-saved._noted c.in-Ok-saved.ensures.call c.in-Ok-save.ensures.saved;
-      caused = λ begun caused. caused_saved c.args.config.now begun (answers_of earlier) c.args.store.now c.save.new.self caused c.snapshot.new.out c.in-Ok-save.generation c.save.ensures.follows
-          (c.in-Ok-save.ensures.saved caused.held_now caused.spare_now caused.running);
-      holds = λ alive first holds. holds_deed first jobs earlier (steps.Save, told) (driver_of c.args.store.now).value (driver_of c.save.new.self).value c.save.ensures.applications refl refl (λ past held. tt) holds;
+          first start living c.saved.new.seat c.in-Ok-save.generation c.in-Ok-saved._noted c.in-Ok-saved.ensures.call (λ held spare running. (c.in-Ok-save.ensures.answers held spare running).saved);
+      caused = λ begun caused. caused_saved c.args.config.now begun (answers_of earlier) c.args.store.now c.save.new.self caused c.snapshot.new.out c.in-Ok-save.generation c.save.ensures.driver.calls
+          (c.in-Ok-save.ensures.answers caused.held_now caused.spare_now caused.running).saved;
+      holds = λ alive first holds. holds_deed first jobs earlier (steps.Save, told) (driver_of c.args.store.now).value (driver_of c.save.new.self).value c.save.ensures.driver.applications refl refl (λ past held. tt) holds;
     })
-    (leaves_by_calls c.args.store.now c.save.new.self c.save.ensures.follows)
+    (leaves_by_calls c.args.store.now c.save.new.self c.save.ensures.driver.calls)
 
 pub returns-in-Err-clause-takes : goal.returns-in-Err-clause-takes
 returns-in-Err-clause-takes g c = λ jobs.
@@ -44,12 +44,12 @@ returns-in-Err-clause-takes g c = λ jobs.
     (λ earlier. record {
       alive = λ alive. c.save.ensures.alive;
       living = λ first start living. living_failed c.args.config.now c.args.seat.now c.snapshot.new.seat c.in-Ok._taken c.snapshot.new.out c.in-Ok.ensures.call.call c.in-Ok.ensures.state earlier c.args.store.now c.save.new.self
-          first start living c.in-Err.fault c.in-Err.ensures.failed;
-      caused = λ begun caused. caused_failed c.args.config.now begun (answers_of earlier) c.args.store.now c.save.new.self caused c.snapshot.new.out c.in-Err.fault c.save.ensures.follows
-          (c.in-Err.ensures.failed caused.held_now caused.spare_now caused.running)
-          (λ is. c.in-Err.ensures.flash caused.held_now caused.spare_now caused.running (ap Err is))
-          (λ is. c.in-Err.ensures.spent caused.held_now caused.spare_now caused.running (ap Err is))
-          (λ is. (let stuck = c.in-Err.ensures.sequence caused.held_now caused.spare_now caused.running (ap Err is) in g.met.B.Blocks.stuck_is_spent c.save.new.self.nvm.blocks stuck.0 stuck.1 stuck.3));
-      holds = λ alive first holds. holds_deed first jobs earlier (steps.Save, told) (driver_of c.args.store.now).value (driver_of c.save.new.self).value c.save.ensures.applications refl refl (λ past held. tt) holds;
+          first start living c.in-Err.fault (λ held spare running. (c.in-Err.ensures.answers held spare running).failed);
+      caused = λ begun caused. caused_failed c.args.config.now begun (answers_of earlier) c.args.store.now c.save.new.self caused c.snapshot.new.out c.in-Err.fault c.save.ensures.driver.calls
+          (c.in-Err.ensures.answers caused.held_now caused.spare_now caused.running).failed
+          (λ is. (c.in-Err.ensures.causes caused.held_now caused.spare_now caused.running).flash (ap Err is))
+          (λ is. (c.in-Err.ensures.causes caused.held_now caused.spare_now caused.running).spent (ap Err is))
+          (λ is. (let stuck = (c.in-Err.ensures.causes caused.held_now caused.spare_now caused.running).sequence (ap Err is) in g.met.B.Blocks.stuck_is_spent c.save.new.self.nvm.blocks stuck.0 stuck.1 stuck.3));
+      holds = λ alive first holds. holds_deed first jobs earlier (steps.Save, told) (driver_of c.args.store.now).value (driver_of c.save.new.self).value c.save.ensures.driver.applications refl refl (λ past held. tt) holds;
     })
-    (leaves_by_calls c.args.store.now c.save.new.self c.save.ensures.follows)
+    (leaves_by_calls c.args.store.now c.save.new.self c.save.ensures.driver.calls)

@@ -8,18 +8,18 @@ use Rattle.flt_live.proofs.living.begin.Goals as goal
 
 pub returns-in-Ok : goal.returns-in-Ok
 returns-in-Ok g c =
-    begins_by c.args.config.now (driver_of c.args.store.now) c.power_up.new.self c.start_up.new.self _ c.power_up.ensures.powers_up c.start_up.ensures.follows c.start_up.ensures.applications
+    begins_by c.args.config.now (driver_of c.args.store.now) c.power_up.new.self c.start_up.new.self _ c.power_up.ensures.powers_up c.start_up.ensures.driver.calls c.start_up.ensures.driver.applications
     (begun_started c.args.config.now (driver_of c.args.store.now) c.power_up.new.self c.start_up.new.self c.power_up.ensures.powers_up c.in-Ok.generation _ _ c.twin.ensures c.in-Ok.ensures.started c.in-Ok.ensures.fits)
 
 pub returns-in-Err-Flash : goal.returns-in-Err-Flash
 returns-in-Err-Flash g c =
-    begins_by c.args.config.now (driver_of c.args.store.now) c.power_up.new.self c.start_up.new.self _ c.power_up.ensures.powers_up c.start_up.ensures.follows c.start_up.ensures.applications
-    (begun_dark c.args.config.now (driver_of c.args.store.now) c.power_up.new.self c.start_up.new.self c.power_up.ensures.powers_up c.start_up.ensures.follows c.in-Err-Flash.ensures.left c.start_up.ensures.applications
-    (subst (RefusedFor c.args.config.now c.power_up.new.self c.start_up.new.self) c.in-Err-Flash.field-0-is c.in-Err-Flash.ensures.refused))
+    begins_by c.args.config.now (driver_of c.args.store.now) c.power_up.new.self c.start_up.new.self _ c.power_up.ensures.powers_up c.start_up.ensures.driver.calls c.start_up.ensures.driver.applications
+    (begun_dark c.args.config.now (driver_of c.args.store.now) c.power_up.new.self c.start_up.new.self c.power_up.ensures.powers_up c.start_up.ensures.driver.calls c.in-Err-Flash.ensures.generations c.start_up.ensures.driver.applications
+    (subst (RefusedFor c.args.config.now c.power_up.new.self c.start_up.new.self) c.in-Err-Flash.field-0-is c.in-Err-Flash.ensures.causes.refused))
 
 pub returns-in-Err : goal.returns-in-Err
 returns-in-Err g c =
     let other : c.in-Err.fault ≢ faults.Flash = search rules in
-    begins_by c.args.config.now (driver_of c.args.store.now) c.power_up.new.self c.start_up.new.self _ c.power_up.ensures.powers_up c.start_up.ensures.follows c.start_up.ensures.applications
-    (begun_refused c.args.config.now (driver_of c.args.store.now) c.power_up.new.self c.start_up.new.self c.power_up.ensures.powers_up c.start_up.ensures.follows c.in-Err.ensures.left c.start_up.ensures.applications
-    c.in-Err.fault other c.in-Err.ensures.refused)
+    begins_by c.args.config.now (driver_of c.args.store.now) c.power_up.new.self c.start_up.new.self _ c.power_up.ensures.powers_up c.start_up.ensures.driver.calls c.start_up.ensures.driver.applications
+    (begun_refused c.args.config.now (driver_of c.args.store.now) c.power_up.new.self c.start_up.new.self c.power_up.ensures.powers_up c.start_up.ensures.driver.calls c.in-Err.ensures.generations c.start_up.ensures.driver.applications
+    c.in-Err.fault other c.in-Err.ensures.causes.refused)

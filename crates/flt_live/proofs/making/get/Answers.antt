@@ -29,44 +29,44 @@ pub get_block-requires-clause-alive : goal.get_block-requires-clause-alive
 get_block-requires-clause-alive g c = (c.args.config.now, c.requires.block, c.requires.alive)
 
 pub returns-in-Ok-true-clause-alive : goal.returns-in-Ok-true-clause-alive
-returns-in-Ok-true-clause-alive g c = record { held = _; spare = _; running = c.get_block.ensures.running c.args.config.now c.requires.alive.held c.requires.alive.spare c.requires.alive.running }
+returns-in-Ok-true-clause-alive g c = record { held = _; spare = _; running = (c.get_block.ensures.running c.args.config.now c.requires.alive.held c.requires.alive.spare c.requires.alive.running).running }
 
 pub returns-in-Ok-false-clause-alive : goal.returns-in-Ok-false-clause-alive
-returns-in-Ok-false-clause-alive g c = record { held = _; spare = _; running = c.get_block.ensures.running c.args.config.now c.requires.alive.held c.requires.alive.spare c.requires.alive.running }
+returns-in-Ok-false-clause-alive g c = record { held = _; spare = _; running = (c.get_block.ensures.running c.args.config.now c.requires.alive.held c.requires.alive.spare c.requires.alive.running).running }
 
 pub returns-in-Err-clause-alive : goal.returns-in-Err-clause-alive
-returns-in-Err-clause-alive g c = record { held = _; spare = _; running = c.get_block.ensures.running c.args.config.now c.requires.alive.held c.requires.alive.spare c.requires.alive.running }
+returns-in-Err-clause-alive g c = record { held = _; spare = _; running = (c.get_block.ensures.running c.args.config.now c.requires.alive.held c.requires.alive.spare c.requires.alive.running).running }
 
 pub returns-in-Ok-true-clause-reads : goal.returns-in-Ok-true-clause-reads
 returns-in-Ok-true-clause-reads g c = λ response. record {
   is = tt;
-  living = λ first journal told unit living. read_on c.args.config.now first journal told unit c.args.store.now c.get_block.new.self (answers.Bytes c.get_block.new.out) tt (c.get_block.ensures.running c.args.config.now) living;
+  living = λ first journal told unit living. read_on c.args.config.now first journal told unit c.args.store.now c.get_block.new.self (answers.Bytes c.get_block.new.out) tt (λ held spare running. (c.get_block.ensures.running c.args.config.now held spare running).running) living;
   caused = λ begun told caused.
-      caused_read c.args.config.now begun told c.args.store.now c.get_block.new.self caused (answers.Bytes c.get_block.new.out) tt c.get_block.ensures.follows (c.get_block.ensures.running c.args.config.now caused.held_now caused.spare_now caused.running);
-  found = gets_bytes _ c.in-Ok-true.field-0 _ (c.in-Ok-true.ensures.got c.args.config.now c.requires.alive.held c.requires.alive.spare c.requires.alive.running) c.in-Ok-true.field-0-test;
+      caused_read c.args.config.now begun told c.args.store.now c.get_block.new.self caused (answers.Bytes c.get_block.new.out) tt c.get_block.ensures.calls (c.get_block.ensures.running c.args.config.now caused.held_now caused.spare_now caused.running).running;
+  found = gets_bytes _ c.in-Ok-true.field-0 _ (c.in-Ok-true.ensures.running c.args.config.now c.requires.alive.held c.requires.alive.spare c.requires.alive.running).got c.in-Ok-true.field-0-test;
   values = c.get_block.ensures.values;
-  follows = c.get_block.ensures.follows;
+  follows = c.get_block.ensures.calls;
 }
 
 pub returns-in-Ok-false-clause-reads : goal.returns-in-Ok-false-clause-reads
 returns-in-Ok-false-clause-reads g c = λ response. record {
   is = tt;
-  living = λ first journal told unit living. read_on c.args.config.now first journal told unit c.args.store.now c.get_block.new.self (answers.NoBlock) tt (c.get_block.ensures.running c.args.config.now) living;
+  living = λ first journal told unit living. read_on c.args.config.now first journal told unit c.args.store.now c.get_block.new.self (answers.NoBlock) tt (λ held spare running. (c.get_block.ensures.running c.args.config.now held spare running).running) living;
   caused = λ begun told caused.
-      caused_read c.args.config.now begun told c.args.store.now c.get_block.new.self caused (answers.NoBlock) tt c.get_block.ensures.follows (c.get_block.ensures.running c.args.config.now caused.held_now caused.spare_now caused.running);
-  found = gets_none _ c.in-Ok-false.field-0 _ (c.in-Ok-false.ensures.got c.args.config.now c.requires.alive.held c.requires.alive.spare c.requires.alive.running) c.in-Ok-false.field-0-test;
+      caused_read c.args.config.now begun told c.args.store.now c.get_block.new.self caused (answers.NoBlock) tt c.get_block.ensures.calls (c.get_block.ensures.running c.args.config.now caused.held_now caused.spare_now caused.running).running;
+  found = gets_none _ c.in-Ok-false.field-0 _ (c.in-Ok-false.ensures.running c.args.config.now c.requires.alive.held c.requires.alive.spare c.requires.alive.running).got c.in-Ok-false.field-0-test;
   values = c.get_block.ensures.values;
-  follows = c.get_block.ensures.follows;
+  follows = c.get_block.ensures.calls;
 }
 
 pub returns-in-Err-clause-reads : goal.returns-in-Err-clause-reads
 returns-in-Err-clause-reads g c = λ response. record {
   is = tt;
-  living = λ first journal told unit living. read_on c.args.config.now first journal told unit c.args.store.now c.get_block.new.self (answers.BlockFlash) tt (c.get_block.ensures.running c.args.config.now) living;
+  living = λ first journal told unit living. read_on c.args.config.now first journal told unit c.args.store.now c.get_block.new.self (answers.BlockFlash) tt (λ held spare running. (c.get_block.ensures.running c.args.config.now held spare running).running) living;
   caused = λ begun told caused.
-      caused_unread c.args.config.now begun told c.args.store.now c.get_block.new.self caused c.get_block.ensures.follows
-      (c.in-Err.ensures.flash c.args.config.now caused.held_now caused.spare_now caused.running) (c.get_block.ensures.running c.args.config.now caused.held_now caused.spare_now caused.running);
+      caused_unread c.args.config.now begun told c.args.store.now c.get_block.new.self caused c.get_block.ensures.calls
+      (c.in-Err.ensures.running c.args.config.now caused.held_now caused.spare_now caused.running).flash (c.get_block.ensures.running c.args.config.now caused.held_now caused.spare_now caused.running).running;
   found = tt;
   values = c.get_block.ensures.values;
-  follows = c.get_block.ensures.follows;
+  follows = c.get_block.ensures.calls;
 }

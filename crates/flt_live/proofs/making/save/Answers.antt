@@ -11,7 +11,7 @@ returns-in-Ok-clause-saves g c = λ response. record {
   is = tt;
   living = λ first journal told living.
       (let start = start_from c.args.config.now first.state in
-      let saved = c.in-Ok.ensures.saved living.held living.spare living.running in
+      let saved = (c.in-Ok.ensures.answers living.held living.spare living.running).saved in
       let taken = c.take_snapshot.ensures.taken start (calls_of journal) living.stands in
       record {
         stands = c.apply_into.ensures.stands _ _ (c.take_snapshot.ensures.stands start (calls_of journal) living.stands);
@@ -21,10 +21,10 @@ returns-in-Ok-clause-saves g c = λ response. record {
         kept = rw taken (kept_saved c.args.config.now first journal told living.held living.spare living.kept saved.chosen saved.is 0 c.in-Ok.generation (entry 0 ops.Snapshot ∷ journal) saved.next refl);
       });
   caused = λ begun told caused.
-      caused_saved c.args.config.now begun told c.args.store.now c.save.new.self caused c.take_snapshot.new.buffers.state c.in-Ok.generation c.save.ensures.follows
-      (c.in-Ok.ensures.saved caused.held_now caused.spare_now caused.running);
-  applications = c.save.ensures.applications;
-  follows = c.save.ensures.follows;
+      caused_saved c.args.config.now begun told c.args.store.now c.save.new.self caused c.take_snapshot.new.buffers.state c.in-Ok.generation c.save.ensures.driver.calls
+      (c.in-Ok.ensures.answers caused.held_now caused.spare_now caused.running).saved;
+  applications = c.save.ensures.driver.applications;
+  follows = c.save.ensures.driver.calls;
 }
 
 pub returns-in-Err-clause-saves : goal.returns-in-Err-clause-saves
@@ -32,7 +32,7 @@ returns-in-Err-clause-saves g c = λ response. record {
   is = tt;
   living = λ first journal told living.
       (let start = start_from c.args.config.now first.state in
-      let left = c.in-Err.ensures.failed living.held living.spare living.running in
+      let left = (c.in-Err.ensures.answers living.held living.spare living.running).failed in
       let taken = c.take_snapshot.ensures.taken start (calls_of journal) living.stands in
       let held_is = rw taken at left.held_is in
       let spare_is = rw taken at left.spare_is in
@@ -44,11 +44,11 @@ returns-in-Err-clause-saves g c = λ response. record {
         kept = kept_failed c.args.config.now first journal told living.held living.spare living.kept left.chosen left.is 0 c.in-Err.fault left.now_held left.now_spare held_is spare_is;
       });
   caused = λ begun told caused.
-      caused_failed c.args.config.now begun told c.args.store.now c.save.new.self caused c.take_snapshot.new.buffers.state c.in-Err.fault c.save.ensures.follows
-      (c.in-Err.ensures.failed caused.held_now caused.spare_now caused.running)
-      (λ is. c.in-Err.ensures.flash caused.held_now caused.spare_now caused.running (ap Err is))
-      (λ is. c.in-Err.ensures.spent caused.held_now caused.spare_now caused.running (ap Err is))
-      (λ is. (let stuck = c.in-Err.ensures.sequence caused.held_now caused.spare_now caused.running (ap Err is) in g.met.D.Blocks.stuck_is_spent c.save.new.self.nvm.blocks stuck.0 stuck.1 stuck.3));
-  applications = c.save.ensures.applications;
-  follows = c.save.ensures.follows;
+      caused_failed c.args.config.now begun told c.args.store.now c.save.new.self caused c.take_snapshot.new.buffers.state c.in-Err.fault c.save.ensures.driver.calls
+      (c.in-Err.ensures.answers caused.held_now caused.spare_now caused.running).failed
+      (λ is. (c.in-Err.ensures.causes caused.held_now caused.spare_now caused.running).flash (ap Err is))
+      (λ is. (c.in-Err.ensures.causes caused.held_now caused.spare_now caused.running).spent (ap Err is))
+      (λ is. (let stuck = (c.in-Err.ensures.causes caused.held_now caused.spare_now caused.running).sequence (ap Err is) in g.met.D.Blocks.stuck_is_spent c.save.new.self.nvm.blocks stuck.0 stuck.1 stuck.3));
+  applications = c.save.ensures.driver.applications;
+  follows = c.save.ensures.driver.calls;
 }

@@ -31,7 +31,7 @@ live-requires-clause-fit g c =
     let fit = c.requires.fit in
     let most = fit.arms in
     let powered = c.power_up.ensures.powers_up.bench.armed in
-    let started = c.start_up.ensures.follows.bench.armed in
+    let started = c.start_up.ensures.driver.calls.bench.armed in
     record { possible = fit.possible; few = fit.few; numbers = fit.numbers; indices = fit.indices; arms = omega (arith, most, powered, started) }
 
 pub returns-in_err-room-clause-left : goal.returns-in_err-room-clause-left
@@ -49,7 +49,7 @@ returns-in-Ok-clause-lived g c =
     let parts = parts_of c.args.parts.now in
     let powers = c.power_up.ensures.powers_up in
     let started = c.in-Ok.ensures.started in
-    let follows = c.start_up.ensures.follows in
+    let follows = c.start_up.ensures.driver.calls in
     let stays = c.live.ensures.stays in
     let powered = powers.bench.armed in
     let begun = follows.bench.armed in
@@ -58,7 +58,7 @@ returns-in-Ok-clause-lived g c =
       lived = lived_started config first c.power_up.new.self c.start_up.new.self powers c.in-Ok.generation c.start_up.new.out
           last (view_of parts lived.life) started follows stays.goes_on life.boot life.leaves (life.caused (moment_of second) follows.counts)
           (keeps_from_boot config (moment_of second) (moment_of third) (moment_of last) (view_of parts lived.life) started.running.served.given.valid c.requires.fit.possible
-          c.start_up.ensures.applications life.kept);
+          c.start_up.ensures.driver.applications life.kept);
       played = life.played;
       given = subst (λ b. WereGiven (arms_by parts b) first.device.bench.arms last.device.bench.arms) (sym life.boot)
           (subst (λ a. WereGiven (all_arms (own_actions parts)) a last.device.bench.arms) (follows.bench.arms ∙ powers.bench.arms) life.given);
@@ -70,7 +70,7 @@ pub returns-in-Ok-clause-left : goal.returns-in-Ok-clause-left
 returns-in-Ok-clause-left g c =
     let alive = c.live.ensures.stays.alive in
     let adds = adds_life (driver_of c.args.store.now) (driver_of c.power_up.new.self) c.power_up.ensures.powers_up (driver_of c.start_up.new.self) (driver_of c.live.new.store)
-    c.start_up.ensures.follows c.live.ensures.stays.goes_on in
+    c.start_up.ensures.driver.calls c.live.ensures.stays.goes_on in
     record {
       begun = one_begun (driver_of c.args.store.now).device (driver_of c.live.new.store).device adds.boots;
       sound = λ h s sound. (alive.held, alive.spare, record { undamaged = g.met.D.Blocks.mounted_is_sound c.live.new.store.nvm.blocks alive.running.served.mounted; sound = alive.running.sound });
@@ -90,15 +90,15 @@ returns-in-Err-Flash-clause-lived g c =
     let told = map dark_answer (own_actions parts) in
     let lanes = map dark_answers (lanes_in parts) in
     let powers = c.power_up.ensures.powers_up in
-    let follows = c.start_up.ensures.follows in
+    let follows = c.start_up.ensures.driver.calls in
     let dark = c.dark_life-life.ensures in
     let powered = powers.bench.armed in
     let begun = follows.bench.armed in
     let armed = dark.gives.armed in
     let whole : IsLivedThrough config first last (record { parts = parts; boot = boots.Dark; journal = []; queue = []; own = told; lanes = lanes }) = record {
       lived = lived_dark config first c.power_up.new.self c.start_up.new.self powers parts last told lanes
-          (subst (RefusedFor config c.power_up.new.self c.start_up.new.self) c.in-Err-Flash.field-0-is c.in-Err-Flash.ensures.refused) follows dark.gives.goes_on dark.same
-          (keeps config second third follows c.in-Err-Flash.ensures.left) c.start_up.ensures.applications;
+          (subst (RefusedFor config c.power_up.new.self c.start_up.new.self) c.in-Err-Flash.field-0-is c.in-Err-Flash.ensures.causes.refused) follows dark.gives.goes_on dark.same
+          (keeps config second third follows c.in-Err-Flash.ensures.generations) c.start_up.ensures.driver.applications;
       played = (refl, refl, refl, refl);
       given = subst (λ a. WereGiven (all_arms (own_actions parts)) a last.device.bench.arms) (follows.bench.arms ∙ powers.bench.arms) dark.gives.given;
       adds = adds_life first second powers third last follows dark.gives.goes_on;
@@ -112,13 +112,13 @@ returns-in-Err-Flash-clause-left g c =
     let second = driver_of c.power_up.new.self in
     let third = driver_of c.start_up.new.self in
     let powers = c.power_up.ensures.powers_up in
-    let follows = c.start_up.ensures.follows in
+    let follows = c.start_up.ensures.driver.calls in
     let dark = c.dark_life-life.ensures in
     let adds = adds_life first second powers third (driver_of c.dark_life-life.new.store) follows dark.gives.goes_on in
     record {
       begun = one_begun first.device (driver_of c.dark_life-life.new.store).device adds.boots;
       sound = subst (λ (m : Moment). StaysSound c.args.config.now (moment_of first) m) (sym dark.same)
-          (stays_by_keeping c.args.config.now first second third powers (keeps c.args.config.now second third follows c.in-Err-Flash.ensures.left));
+          (stays_by_keeping c.args.config.now first second third powers (keeps c.args.config.now second third follows c.in-Err-Flash.ensures.generations));
       room = adds.room;
     }
 
@@ -132,13 +132,13 @@ returns-in-Err-clause-lived g c =
     let third = driver_of c.start_up.new.self in
     let parts = parts_of c.args.parts.now in
     let powers = c.power_up.ensures.powers_up in
-    let follows = c.start_up.ensures.follows in
+    let follows = c.start_up.ensures.driver.calls in
     let other : c.in-Err.fault ≢ faults.Flash = search rules in
     let powered = powers.bench.armed in
     let begun = follows.bench.armed in
     let whole : IsLivedThrough config first third (record { parts = parts; boot = boots.Refused c.in-Err.fault; journal = []; queue = []; own = []; lanes = [] }) = record {
       lived = lived_refused config first c.power_up.new.self c.start_up.new.self powers parts c.in-Err.fault (refuses c.in-Err.fault other)
-          follows c.in-Err.ensures.refused (keeps config second third follows c.in-Err.ensures.left) c.start_up.ensures.applications;
+          follows c.in-Err.ensures.causes.refused (keeps config second third follows c.in-Err.ensures.generations) c.start_up.ensures.driver.applications;
       played = (refl, refl, refl, refl);
       given = none_since first.device.bench.arms third.device.bench.arms (follows.bench.arms ∙ powers.bench.arms);
       adds = adds_life first second powers third third follows (goes_nowhere third);
@@ -152,10 +152,10 @@ returns-in-Err-clause-left g c =
     let second = driver_of c.power_up.new.self in
     let third = driver_of c.start_up.new.self in
     let powers = c.power_up.ensures.powers_up in
-    let follows = c.start_up.ensures.follows in
+    let follows = c.start_up.ensures.driver.calls in
     let adds = adds_life first second powers third third follows (goes_nowhere third) in
     record {
       begun = one_begun first.device third.device adds.boots;
-      sound = stays_by_keeping c.args.config.now first second third powers (keeps c.args.config.now second third follows c.in-Err.ensures.left);
+      sound = stays_by_keeping c.args.config.now first second third powers (keeps c.args.config.now second third follows c.in-Err.ensures.generations);
       room = adds.room;
     }

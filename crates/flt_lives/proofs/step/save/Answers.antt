@@ -44,7 +44,7 @@ returns-in-Ok-clause-made g c =
     record {
       carried = λ first stands. written;
       living = λ first told living.
-          (let saved = c.in-Ok.ensures.saved living.held living.spare living.running in
+          (let saved = (c.in-Ok.ensures.answers living.held living.spare living.running).saved in
           let taken = c.take_snapshot.ensures.taken (start_from config first.state) (calls_of journal) living.stands in
           let after : IsLiving config first (entry 0 (ops.Saved c.in-Ok.generation) ∷ entry 0 ops.Snapshot ∷ journal) (answers.Saved c.in-Ok.generation ∷ told) (state_of c.call.new.unit) c.save.new.self = record {
             stands = c.call.ensures.stands _ _ (c.take_snapshot.ensures.stands (start_from config first.state) (calls_of journal) living.stands);
@@ -55,8 +55,8 @@ returns-in-Ok-clause-made g c =
           } in
           subst (λ (journal : Journal). IsLiving config first journal (answers.Saved c.in-Ok.generation ∷ told) (state_of c.call.new.unit) c.save.new.self) (sym written) after);
       caused = λ begun told caused.
-          caused_saved config begun told c.args.store.now c.save.new.self caused c.take_snapshot.new.buffers.state c.in-Ok.generation c.save.ensures.follows
-          (c.in-Ok.ensures.saved caused.held_now caused.spare_now caused.running);
+          caused_saved config begun told c.args.store.now c.save.new.self caused c.take_snapshot.new.buffers.state c.in-Ok.generation c.save.ensures.driver.calls
+          (c.in-Ok.ensures.answers caused.held_now caused.spare_now caused.running).saved;
     }
 
 pub returns-in-Err-clause-made : goal.returns-in-Err-clause-made
@@ -66,7 +66,7 @@ returns-in-Err-clause-made g c =
     record {
       carried = λ first stands. c.write.ensures.written;
       living = λ first told living.
-          (let left = c.in-Err.ensures.failed living.held living.spare living.running in
+          (let left = (c.in-Err.ensures.answers living.held living.spare living.running).failed in
           let taken = c.take_snapshot.ensures.taken (start_from config first.state) (calls_of journal) living.stands in
           let held_is = rw taken at left.held_is in
           let spare_is = rw taken at left.spare_is in
@@ -79,11 +79,11 @@ returns-in-Err-clause-made g c =
           } in
           subst (λ (journal : Journal). IsLiving config first journal (answers.SaveFailed c.in-Err.fault ∷ told) (state_of c.take_snapshot.new.unit) c.save.new.self) (sym c.write.ensures.written) after);
       caused = λ begun told caused.
-          caused_failed config begun told c.args.store.now c.save.new.self caused c.take_snapshot.new.buffers.state c.in-Err.fault c.save.ensures.follows
-          (c.in-Err.ensures.failed caused.held_now caused.spare_now caused.running)
-          (λ is. c.in-Err.ensures.flash caused.held_now caused.spare_now caused.running (ap Err is))
-          (λ is. c.in-Err.ensures.spent caused.held_now caused.spare_now caused.running (ap Err is))
-          (λ is. (let stuck = c.in-Err.ensures.sequence caused.held_now caused.spare_now caused.running (ap Err is) in g.met.D.Blocks.stuck_is_spent c.save.new.self.nvm.blocks stuck.0 stuck.1 stuck.3));
+          caused_failed config begun told c.args.store.now c.save.new.self caused c.take_snapshot.new.buffers.state c.in-Err.fault c.save.ensures.driver.calls
+          (c.in-Err.ensures.answers caused.held_now caused.spare_now caused.running).failed
+          (λ is. (c.in-Err.ensures.causes caused.held_now caused.spare_now caused.running).flash (ap Err is))
+          (λ is. (c.in-Err.ensures.causes caused.held_now caused.spare_now caused.running).spent (ap Err is))
+          (λ is. (let stuck = (c.in-Err.ensures.causes caused.held_now caused.spare_now caused.running).sequence (ap Err is) in g.met.D.Blocks.stuck_is_spent c.save.new.self.nvm.blocks stuck.0 stuck.1 stuck.3));
     }
 
 pub returns-in-Ok-clause-journal : goal.returns-in-Ok-clause-journal
@@ -105,7 +105,7 @@ gives_none before after follows =
     }
 
 pub returns-in-Ok-clause-gives : goal.returns-in-Ok-clause-gives
-returns-in-Ok-clause-gives g c = gives_none (driver_of c.args.store.now) (driver_of c.save.new.self) c.save.ensures.follows
+returns-in-Ok-clause-gives g c = gives_none (driver_of c.args.store.now) (driver_of c.save.new.self) c.save.ensures.driver.calls
 
 pub returns-in-Err-clause-gives : goal.returns-in-Err-clause-gives
-returns-in-Err-clause-gives g c = gives_none (driver_of c.args.store.now) (driver_of c.save.new.self) c.save.ensures.follows
+returns-in-Err-clause-gives g c = gives_none (driver_of c.args.store.now) (driver_of c.save.new.self) c.save.ensures.driver.calls

@@ -5,4 +5,4 @@ pub returns-clause-alive : goal.returns-clause-alive
 returns-clause-alive g c =
     let alive = c.requires in
     let within : 0 < c.args.config.now.blocks = search rules in
-    record { held = alive.held; spare = alive.spare; running = c.put_block.ensures.running c.args.config.now within alive.held alive.spare alive.running }
+    record { held = alive.held; spare = alive.spare; running = (c.put_block.ensures.running c.args.config.now within alive.held alive.spare alive.running).running }

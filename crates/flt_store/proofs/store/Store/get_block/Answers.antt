@@ -18,26 +18,29 @@ pub push_all-requires : goal.push_all-requires
 push_all-requires g c =
     omega (arith, short g (goal.at.push_all-requires g c).In-Ok-Bytes, ap length c.clear.ensures, length-take c.in-Ok-Bytes.length c.read_application.new.out)
 
-pub returns-in-Ok-Missing-clause-got : goal.returns-in-Ok-Missing-clause-got
-returns-in-Ok-Missing-clause-got g c = λ config h s running.
-    gets_nothing _ _ _ _ (rw c.in-Ok-Missing.field-0-is at c.in-Ok-Missing.ensures.got) c.clear.ensures
-
-pub returns-in-Ok-Bytes-clause-got : goal.returns-in-Ok-Bytes-clause-got
-returns-in-Ok-Bytes-clause-got g c = λ config h s running.
-    gets_bytes _ _ _ _ _ _ (rw c.in-Ok-Bytes.field-0-is at c.in-Ok-Bytes.ensures.got)
-    (c.push_all.ensures ∙ ap (λ (held : List ℕ). held ++ take c.in-Ok-Bytes.length c.read_application.new.out) c.clear.ensures)
-
-pub returns-in-Err-Flash-clause-flash : goal.returns-in-Err-Flash-clause-flash
-returns-in-Err-Flash-clause-flash g c = λ config h s running. (rw c.in-Err-Flash.field-0-is at c.in-Err-Flash.ensures.three) refl
-
 pub returns-in-Ok-Missing-clause-running : goal.returns-in-Ok-Missing-clause-running
-returns-in-Ok-Missing-clause-running g c = λ config h s running.
-    reads_run c.args.self.now _ c.read_application.ensures.reads.values c.read_application.ensures.reads.calls.follows (refl, refl, refl) h s running
+returns-in-Ok-Missing-clause-running g c = λ config h s running. record {
+  got = gets_nothing _ _ _ _ (rw c.in-Ok-Missing.field-0-is at c.in-Ok-Missing.ensures.got) c.clear.ensures;
+  running = reads_run c.args.self.now _ c.read_application.ensures.reads.values c.read_application.ensures.reads.calls.follows (refl, refl, refl) h s running;
+  flash = tt;
+  completed = λ never. refl;
+}
 
 pub returns-in-Ok-Bytes-clause-running : goal.returns-in-Ok-Bytes-clause-running
-returns-in-Ok-Bytes-clause-running g c = λ config h s running.
-    reads_run c.args.self.now _ c.read_application.ensures.reads.values c.read_application.ensures.reads.calls.follows (refl, refl, refl) h s running
+returns-in-Ok-Bytes-clause-running g c = λ config h s running. record {
+  got = gets_bytes _ _ _ _ _ _ (rw c.in-Ok-Bytes.field-0-is at c.in-Ok-Bytes.ensures.got)
+      (c.push_all.ensures ∙ ap (λ (held : List ℕ). held ++ take c.in-Ok-Bytes.length c.read_application.new.out) c.clear.ensures);
+  running = reads_run c.args.self.now _ c.read_application.ensures.reads.values c.read_application.ensures.reads.calls.follows (refl, refl, refl) h s running;
+  flash = tt;
+  completed = λ never. refl;
+}
 
 pub returns-in-Err-Flash-clause-running : goal.returns-in-Err-Flash-clause-running
 returns-in-Err-Flash-clause-running g c = λ config h s running.
-    reads_run c.args.self.now _ c.read_application.ensures.reads.values c.read_application.ensures.reads.calls.follows (refl, refl, refl) h s running
+    let flash = (rw c.in-Err-Flash.field-0-is at c.in-Err-Flash.ensures.three) refl in
+    record {
+      got = tt;
+      running = reads_run c.args.self.now _ c.read_application.ensures.reads.values c.read_application.ensures.reads.calls.follows (refl, refl, refl) h s running;
+      flash = flash;
+      completed = λ never. absurd (never flash);
+    }

@@ -1,4 +1,4 @@
-use Rattle.std.proofs.Common.{◌≡◌, inl, inr, ⊎_elim, ◌∙◌, ℕ, List, Result, Err, length, ap, sym, subst, arith}
+use Rattle.std.proofs.Common.{◌≡◌, inl, inr, ⊎_elim, ◌∙◌, ℕ, List, Result, Err, length, ap, refl, sym, subst, arith}
 use Rattle.std.specs.Prelude.{IsTrue}
 use Rattle.flt_flash.specs.Content.{bytes}
 use Rattle.flt_flash.specs.declared.blocks.BlockFault.{BlockFault}
@@ -25,20 +25,27 @@ write-requires-clause-fits g c =
     let size : length c.put_mark.result ≡ 8 = ap (λ (raw : List ℕ). length raw) c.put_mark.ensures ∙ mark_size c.args.mark.now in
     mark_fits _ c.requires.table _ (omega (arith, size))
 
-pub returns-then-is_due-clause-marked : goal.returns-then-is_due-clause-marked
-returns-then-is_due-clause-marked g c = λ config commit same allows.
+pub returns-then-is_due-clause-mark : goal.returns-then-is_due-clause-mark
+returns-then-is_due-clause-mark g c = λ config same.
+    let before = driver_of c.args.nvm.now in
+    let after = driver_of c.write.new.self in
+    let content = before.value mark_number in
+    let due = subst (λ (mark : Mark). IsMarkDue mark content) same (c.requires.due.0 c.if-is_due.true) in
+    let raw = c.put_mark.ensures ∙ ap mark_bytes same in
     let gives = mark_alone _ c.requires.table _ _ c.write.ensures.gives in
-    on_ok c.write.result (λ is. is ∙ ap bytes (c.put_mark.ensures ∙ ap mark_bytes same)) gives.done
-
-pub returns-then-is_due-clause-tried : goal.returns-then-is_due-clause-tried
-returns-then-is_due-clause-tried g c = λ config same.
-    let content = (driver_of c.args.nvm.now).value mark_number in
-    let due = c.requires.due.0 c.if-is_due.true in
-    let gives = mark_alone _ c.requires.table _ _ c.write.ensures.gives in
-    ⊎_elim
-    (λ kept. inl kept)
-    (λ is. inr (subst (λ (mark : Mark). IsMarkDue mark content) same due, is ∙ ap bytes (c.put_mark.ensures ∙ ap mark_bytes same)))
-    gives.either
+    let job = mark_alone _ c.requires.table _ _ c.write.ensures.jobs in
+    record {
+      marked = λ commit allows. on_ok c.write.result (λ is. is ∙ ap bytes raw) gives.done;
+      tried = ⊎_elim (λ kept. inl kept) (λ is. inr (due, is ∙ ap bytes raw)) gives.either;
+      unwritten = λ flash.
+          (let failed = subst (λ (result : Result (Unit {0}) BlockFault). GivesInAJob mark_number (bytes c.put_mark.result) (length c.put_mark.result) before after result) flash job in (
+            due,
+            write_at_once mark_number (mark_bytes (mark_of config)) before after
+                (subst (λ (held : List ℕ). GivesInAJob mark_number (bytes held) (length held) before after (Err Flash)) raw failed)
+                (mark_alone _ c.requires.table _ _ (c.write.ensures.named flash)),
+          ));
+      stuck = λ spent. record { due = due; stuck = subst (λ (held : List ℕ). IsTrue (after.is_stuck mark_number (length held))) raw (gives.spent spent) };
+    }
 
 pub returns-then-is_due-clause-others : goal.returns-then-is_due-clause-others
 returns-then-is_due-clause-others g c = λ other apart.
@@ -54,34 +61,15 @@ returns-then-is_due-clause-writes g c =
 pub returns-else-is_due-clause-writes : goal.returns-else-is_due-clause-writes
 returns-else-is_due-clause-writes g c = no_write (driver_of c.args.nvm.now)
 
-pub returns-else-is_due-clause-marked : goal.returns-else-is_due-clause-marked
-returns-else-is_due-clause-marked g c = λ config commit same allows.
+pub returns-else-is_due-clause-mark : goal.returns-else-is_due-clause-mark
+returns-else-is_due-clause-mark g c = λ config same.
     let content = (driver_of c.args.nvm.now).value mark_number in
-    stands_anew config content commit allows (λ due.
-    let yes = c.requires.due.1 (subst (λ (mark : Mark). IsMarkDue mark content) (sym same) due) in
-    let no = c.if-is_due.false in
-    cc (yes, no))
-
-pub returns-then-is_due-clause-unwritten : goal.returns-then-is_due-clause-unwritten
-returns-then-is_due-clause-unwritten g c = λ config same flash.
-    let before = driver_of c.args.nvm.now in
-    let after = driver_of c.write.new.self in
-    let due = c.requires.due.0 c.if-is_due.true in
-    let raw = c.put_mark.ensures ∙ ap mark_bytes same in
-    let job = mark_alone _ c.requires.table _ _ c.write.ensures.jobs in
-    let failed = subst (λ (result : Result (Unit {0}) BlockFault). GivesInAJob mark_number (bytes c.put_mark.result) (length c.put_mark.result) before after result) flash job in (
-      subst (λ (mark : Mark). IsMarkDue mark (before.value mark_number)) same due,
-      write_at_once mark_number (mark_bytes (mark_of config)) before after
-          (subst (λ (held : List ℕ). GivesInAJob mark_number (bytes held) (length held) before after (Err Flash)) raw failed)
-          (mark_alone _ c.requires.table _ _ (c.write.ensures.named flash)),
-    )
-
-pub returns-then-is_due-clause-stuck : goal.returns-then-is_due-clause-stuck
-returns-then-is_due-clause-stuck g c = λ config same spent.
-    let content = (driver_of c.args.nvm.now).value mark_number in
-    let due = c.requires.due.0 c.if-is_due.true in
-    let gives = mark_alone _ c.requires.table _ _ c.write.ensures.gives in
     record {
-      due = subst (λ (mark : Mark). IsMarkDue mark content) same due;
-      stuck = subst (λ (raw : List ℕ). IsTrue ((driver_of c.write.new.self).is_stuck mark_number (length raw))) (c.put_mark.ensures ∙ ap mark_bytes same) (gives.spent spent);
+      marked = λ commit allows. stands_anew config content commit allows (λ due.
+          let yes = c.requires.due.1 (subst (λ (mark : Mark). IsMarkDue mark content) (sym same) due) in
+          let no = c.if-is_due.false in
+          cc (yes, no));
+      tried = inl refl;
+      unwritten = λ flash. absurd (cc flash);
+      stuck = λ spent. absurd (cc spent);
     }

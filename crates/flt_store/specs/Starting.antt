@@ -1,0 +1,64 @@
+-- What the parts of a start-up need, and what they leave.
+use Rattle.std.specs.Prelude.{ℕ, ◌↔◌, Bool, Option, Result, IfOk, IfErr, IsErrOf, IsTrue, IsFalse, OnOk}
+use Rattle.flt_flash.specs.Content.{Content}
+use Rattle.flt_flash.specs.Blocks.{BlocksState}
+use Rattle.flt_flash.specs.declared.blocks.Blocks.{Ghosts}
+use Rattle.flt_flash.specs.declared.blocks.BlockFault.{BlockFault}
+use Rattle.flt_flash.specs.declared.blocks.BlockFault.TheVariants.{Flash as BlockFlash, SequenceSpent as BlockStuck}
+use Rattle.flt_config.specs.declared.config.Config.{Config}
+use Rattle.flt_store_model.specs.declared.commit.Commit.{Commit}
+use Rattle.flt_store_model.specs.Layout.{mark_number}
+use Rattle.flt_store_model.specs.Form.{mark_of}
+use Rattle.flt_store_model.specs.Excess.{IsBorne}
+use Rattle.flt_store_model.specs.Holding.{Generation, MarkAllows}
+use Rattle.flt_restore.specs.declared.commit.CommitCopy.{CommitCopy}
+use Rattle.flt_restore.specs.declared.fault.StartFault.{StartFault}
+use Rattle.flt_restore.specs.declared.fault.StartFault.TheVariants.{Flash, SequenceSpent}
+use Rattle.flt_restore.specs.Restored.{IsMarkDue}
+use Rattle.flt_store.specs.declared.store.Store.{Store}
+use Rattle.flt_store.specs.Cause.{HasRoom, Writes}
+use Rattle.flt_store.specs.Started.{HasMark, IsMarkTried, IsStarted}
+use Rattle.flt_store.specs.Leaving.{AddsNoGeneration}
+use Rattle.flt_store.specs.Store.{driver_of}
+use Rattle.flt_store.specs.Start.{IsFoundIn, RefusedFor}
+use Rattle.flt_store.specs.Dark.{IsMarkUnwritten, IsOfBlocks, IsUnbegun}
+use Rattle.flt_store.specs.Spent.{IsMarkStuck, IsOutOfNumbers}
+
+-- The driver was mounted, is not stale, and leaves the configuration its room.
+pub record IsMountedFor (c : Config) (driver : BlocksState) : Type 0 where
+  pub room : HasRoom c driver.room
+  pub mounted : IsTrue driver.has_mounted
+  pub not_stale : IsFalse driver.is_stale
+
+-- The mark of a configuration was written where that was due, or stands as it was.
+pub record WritesMark (c : Config) (before after : BlocksState) (result : Result (Unit {0}) BlockFault) : Type 0 where
+  -- Over an image that is not another configuration's it stands after Ok.
+  pub marked : (commit : Content) → MarkAllows c (before.value mark_number) commit → OnOk result (HasMark c after.value)
+  pub tried : IsMarkTried c before.value after.value
+  pub unwritten : IsErrOf result BlockFlash → IsMarkUnwritten c before after
+  pub stuck : IsErrOf result BlockStuck → IsMarkStuck c before after
+
+-- A start-up has read an image on a driver that is not stale: it knows whether the mark is due, and the copy of the commit that was found.
+pub record HasRead (c : Config) (driver : BlocksState) (is_mark_due : Bool) (copy : Option CommitCopy) : Type 0 where
+  pub due : IsTrue is_mark_due ↔ IsMarkDue (mark_of c) (driver.value mark_number)
+  pub found : IsFoundIn c driver.value copy
+  pub not_stale : IsFalse driver.is_stale
+
+-- What a generation needs in the image was written, so that both copies of the commit name it; or the writes stopped on the way.
+pub record BeginsWith (c : Config) (g : Generation) (before after : BlocksState) (result : Result (Option Commit) BlockFault) : Type 0 where
+  pub started : IfOk result (λ commit. IsStarted c after.value commit g)
+  pub generations : AddsNoGeneration c before after result
+  pub unbegun : IsErrOf result BlockFlash → IsUnbegun c before after
+  pub writes : Writes before after result
+  pub borne : IsBorne c after.value
+
+module _ {B : Type 0} {b : Ghosts B} where
+  -- Each refusal of a start-up has its cause: in these words where it is dark, and in these where nothing was written.
+  pub record CausesOfRefusal (is_dark is_unwritten : BlocksState → BlocksState → Type 0) (c : Config) (before after : Store B b) (result : Result ℕ StartFault) : Type 0 where
+    pub refused : IfErr result (RefusedFor c before after)
+    pub dark : IsErrOf result Flash → is_dark (driver_of before) (driver_of after)
+    pub unwritten : IfErr result (λ fault. IsOfBlocks fault → is_unwritten (driver_of before) (driver_of after))
+    -- Where the last sequence number was in use before, nothing is written.
+    pub early : IsErrOf result SequenceSpent → IsTrue (driver_of before).is_spent → is_unwritten (driver_of before) (driver_of after)
+    -- No start-up uses a sequence number and then answers that none is left.
+    pub spent : IsErrOf result SequenceSpent → IsOutOfNumbers c (driver_of before) (driver_of after)
