@@ -3,6 +3,7 @@ pub mod Listing
 pub mod Unknown
 pub mod Requests
 pub mod Unit
+pub mod Applied
 pub mod ReplyKind
 pub mod Standard
 pub mod Whole

@@ -1,5 +1,5 @@
 //! The whole status machine without the functions of its table of data identifiers.
-ghost use Rattle.std.specs.Prelude.{◌≡◌, ◌≢◌, ◌<◌, ◌≤◌, ℕ, List, [], ◌∷◌, map, length, Some};
+ghost use Rattle.std.specs.Prelude.{◌≡◌, ◌<◌, ◌≤◌, ℕ, List, [], ◌∷◌, map, length, Some};
 ghost use Rattle.std.specs.List.{list_any};
 ghost use Rattle.flt_config.specs.Durable.{Fits};
 ghost use Rattle.flt_model.specs.Start.{Start, History, fresh};
@@ -15,7 +15,8 @@ ghost use Rattle.flt_dem.specs.View.{view_of};
 ghost use Rattle.flt_dcm.specs.Session.{is_extended_one, has_hold, heard, after, after_asked, ticked};
 ghost use Rattle.flt_dcm.specs.Standard.{SaysStandard};
 ghost use Rattle.flt_dcm.specs.Requests.{TakesClearOf, TakesBytes};
-ghost use Rattle.flt_dcm.specs.Unit.{Stands, Takes, Answers, IsAdmitted, IsIgnored, IsReading, IsNegative, IsTesterCall, OnlyHearsWhereNegative, written, with_heard};
+ghost use Rattle.flt_dcm.specs.Unit.{Stands, Takes, Answers, IsAdmitted, IsIgnored, IsNegative, IsTesterCall, with_heard};
+ghost use Rattle.flt_dcm.specs.Applied.{AppliesCall, WritesState};
 ghost use Rattle.flt_dcm.specs.ReplyKind.{reply_with};
 
 use crate::response::{ALL_DTCS, UnknownDtc, put_positive};
@@ -271,14 +272,8 @@ impl UnitState {
     ) -> ReplyKind
         requires served { Serves (dids_of dids.now) self.old.dem.durable.config.events.items }
         requires admitted { IsAdmitted self.old.dem.durable.config op.now }
-        ensures config { self.new.dem.durable.config ≡ self.old.dem.durable.config }
-        ensures base { self.new.base ≡ self.old.base }
-        ensures stands { Takes op.now self.old self.new }
-        ensures answer { Answers op.now self.old (reply_with result response.new.items) }
+        ensures applied { AppliesCall op.now self.old self.new (reply_with result response.new.items) }
         ensures unsent { ¬ IsTesterCall op.now → response.new ≡ response.old }
-        ensures reading { IsReading op.now → self.new ≡ self.old }
-        ensures ignored { IsIgnored (reply_with result response.new.items) → self.new ≡ self.old }
-        ensures negative { OnlyHearsWhereNegative op.now (reply_with result response.new.items) self.old self.new }
     {
         match op {
             Op::Signal { index, value } => {
@@ -319,16 +314,9 @@ impl UnitState {
     ) -> ReplyKind
         requires served { Serves (dids_of dids.now) self.old.dem.durable.config.events.items }
         requires admitted { IsAdmitted self.old.dem.durable.config op.now }
-        ensures config { self.new.dem.durable.config ≡ self.old.dem.durable.config }
-        ensures base { self.new.base ≡ self.old.base }
-        ensures stands { Takes op.now self.old self.new }
-        ensures answer { Answers op.now self.old (reply_with result response.new.items) }
+        ensures applied { AppliesCall op.now self.old self.new (reply_with result response.new.items) }
         ensures unsent { ¬ IsTesterCall op.now → response.new ≡ response.old }
-        ensures written { (life : Start) (past : History) → Stands life past self.old → out.new ≡ written life past op.now out.old }
-        ensures kept { op.now ≢ ops.Snapshot → out.new ≡ out.old }
-        ensures reading { IsReading op.now → self.new ≡ self.old }
-        ensures ignored { IsIgnored (reply_with result response.new.items) → self.new ≡ self.old }
-        ensures negative { OnlyHearsWhereNegative op.now (reply_with result response.new.items) self.old self.new }
+        ensures state { WritesState op.now self.old out.old out.new }
         ensures standard { (life : Start) (past : History) → Stands life past self.old → SaysStandard life (op.now ∷ past) self.new.dem }
     {
         match op {
@@ -342,15 +330,8 @@ impl UnitState {
     pub fn apply(&mut self, dids: &DidTable<DID_ROWS>, op: &Op, out: &mut Persist) -> Reply
         requires served { Serves (dids_of dids.now) self.old.dem.durable.config.events.items }
         requires admitted { IsAdmitted self.old.dem.durable.config op.now }
-        ensures config { self.new.dem.durable.config ≡ self.old.dem.durable.config }
-        ensures base { self.new.base ≡ self.old.base }
-        ensures stands { Takes op.now self.old self.new }
-        ensures answer { Answers op.now self.old result }
-        ensures written { (life : Start) (past : History) → Stands life past self.old → out.new ≡ written life past op.now out.old }
-        ensures kept { op.now ≢ ops.Snapshot → out.new ≡ out.old }
-        ensures reading { IsReading op.now → self.new ≡ self.old }
-        ensures ignored { IsIgnored result → self.new ≡ self.old }
-        ensures negative { OnlyHearsWhereNegative op.now result self.old self.new }
+        ensures applied { AppliesCall op.now self.old self.new result }
+        ensures state { WritesState op.now self.old out.old out.new }
         ensures standard { (life : Start) (past : History) → Stands life past self.old → SaysStandard life (op.now ∷ past) self.new.dem }
     {
         let mut response = ArrayVec::new();

@@ -1,15 +1,15 @@
 //! The whole status machine with its table of data identifiers.
-ghost use Rattle.std.specs.Prelude.{◌≡◌, ◌≢◌, [], ◌∷◌};
+ghost use Rattle.std.specs.Prelude.{◌≡◌, [], ◌∷◌};
 ghost use Rattle.std.proofs.Props.{props};
 ghost use Rattle.flt_config.specs.Durable.{Fits};
 ghost use Rattle.flt_model.specs.Start.{Start, History, fresh};
 ghost use Rattle.flt_model.specs.Answer.{answer};
-ghost use Rattle.flt_model.specs.declared.call.Op.TheVariants as ops;
 ghost use Rattle.flt_did.specs.Table.{dids_of};
 ghost use Rattle.flt_did.specs.Serves.{Serves};
 ghost use Rattle.flt_dem.specs.Dem.{config_of as dem_config, table_of as dem_table};
 ghost use Rattle.flt_dcm.specs.Standard.{SaysStandard};
-ghost use Rattle.flt_dcm.specs.Unit.{Stands, Takes, Answers, IsAdmitted, IsIgnored, IsReading, IsTesterCall, OnlyHearsWhereNegative, written};
+ghost use Rattle.flt_dcm.specs.Unit.{Stands, IsAdmitted, IsTesterCall};
+ghost use Rattle.flt_dcm.specs.Applied.{AppliesCall, WritesState};
 ghost use Rattle.flt_dcm.specs.ReplyKind.{reply_with};
 
 use crate::state::{ReplyKind, UnitState};
@@ -74,17 +74,10 @@ impl Unit {
         response: &mut ArrayVec<u8, RESPONSE>,
     ) -> ReplyKind
         requires admitted { IsAdmitted (config_of self.old) op.now }
-        ensures config { config_of self.new ≡ config_of self.old }
         ensures dids { table_of self.new ≡ table_of self.old }
-        ensures base { (state_of self.new).base ≡ (state_of self.old).base }
-        ensures stands { Takes op.now (state_of self.old) (state_of self.new) }
-        ensures answer { Answers op.now (state_of self.old) (reply_with result response.new.items) }
+        ensures applied { AppliesCall op.now (state_of self.old) (state_of self.new) (reply_with result response.new.items) }
         ensures unsent { ¬ IsTesterCall op.now → response.new ≡ response.old }
-        ensures written { (life : Start) (past : History) → Stands life past (state_of self.old) → out.new ≡ written life past op.now out.old }
-        ensures kept { op.now ≢ ops.Snapshot → out.new ≡ out.old }
-        ensures reading { IsReading op.now → state_of self.new ≡ state_of self.old }
-        ensures ignored { IsIgnored (reply_with result response.new.items) → state_of self.new ≡ state_of self.old }
-        ensures negative { OnlyHearsWhereNegative op.now (reply_with result response.new.items) (state_of self.old) (state_of self.new) }
+        ensures state { WritesState op.now (state_of self.old) out.old out.new }
         ensures standard { (life : Start) (past : History) → Stands life past (state_of self.old) → SaysStandard life (op.now ∷ past) (state_of self.new).dem }
     {
         self.state.apply_into(&self.dids, op, out, response)
@@ -93,16 +86,9 @@ impl Unit {
     /// Carries out a call, and answers it, as `apply_into` does, with the bytes of a response in the answer.
     pub fn apply(&mut self, op: &Op, out: &mut Persist) -> Reply
         requires admitted { IsAdmitted (config_of self.old) op.now }
-        ensures config { config_of self.new ≡ config_of self.old }
         ensures dids { table_of self.new ≡ table_of self.old }
-        ensures base { (state_of self.new).base ≡ (state_of self.old).base }
-        ensures stands { Takes op.now (state_of self.old) (state_of self.new) }
-        ensures answer { Answers op.now (state_of self.old) result }
-        ensures written { (life : Start) (past : History) → Stands life past (state_of self.old) → out.new ≡ written life past op.now out.old }
-        ensures kept { op.now ≢ ops.Snapshot → out.new ≡ out.old }
-        ensures reading { IsReading op.now → state_of self.new ≡ state_of self.old }
-        ensures ignored { IsIgnored result → state_of self.new ≡ state_of self.old }
-        ensures negative { OnlyHearsWhereNegative op.now result (state_of self.old) (state_of self.new) }
+        ensures applied { AppliesCall op.now (state_of self.old) (state_of self.new) result }
+        ensures state { WritesState op.now (state_of self.old) out.old out.new }
         ensures standard { (life : Start) (past : History) → Stands life past (state_of self.old) → SaysStandard life (op.now ∷ past) (state_of self.new).dem }
     {
         self.state.apply(&self.dids, op, out)

@@ -1,5 +1,5 @@
 -- What the parts of a life need, and what they leave.
-use Rattle.std.specs.Prelude.{◌≡◌, ◌+◌, ◌<◌, ◌≤◌, ◌^◌, List, [], All, length, map, reverse, sum_by, vec_len}
+use Rattle.std.specs.Prelude.{◌≡◌, ◌+◌, ◌<◌, ◌≤◌, ◌^◌, List, [], ◌∷◌, All, length, map, reverse, sum_by, vec_len}
 use Rattle.std.specs.Vec.{vec_capacity}
 use Rattle.flt_flash.specs.declared.blocks.Blocks.{Ghosts}
 use Rattle.flt_config.specs.declared.config.Config.{Config}
@@ -11,13 +11,14 @@ use Rattle.flt_fork.specs.Lived.{IsMain}
 use Rattle.flt_life_model.specs.Actions.{all_arms}
 use Rattle.flt_life_model.specs.Going.{GoesOn, WereGiven}
 use Rattle.flt_life_model.specs.Ordered.{deeds_in}
-use Rattle.flt_life_model.specs.Parts.{arms_in, calls_in, own_actions, own_steps, queued_in, widths}
+use Rattle.flt_life_model.specs.Parts.{arms_in, calls_in, own_actions, own_steps, queued_in, width, widths}
 use Rattle.flt_life_model.specs.Room.{HasRoomForSteps, told_in}
 use Rattle.flt_lane.specs.declared.living.LifeAnswers.{LifeAnswers}
 use Rattle.flt_lane.specs.declared.locks.Locks.{Locks}
 use Rattle.flt_lane.specs.declared.locks.Seats.{Seats}
 use Rattle.flt_lane.specs.declared.room.BlockRoom.{BlockRoom}
 use Rattle.flt_lane.specs.Block.{HaveRunParts}
+use Rattle.flt_lane.specs.BlockRun.{GainsPart}
 use Rattle.flt_lane.specs.Living.{Carries}
 use Rattle.flt_lane.specs.Room.{AreRoomsOf, IsPartFor}
 use Rattle.flt_lane.specs.Work.{AreReady}
@@ -48,6 +49,18 @@ module _ {B : Type 0} {b : Ghosts B} where
     pub calls : HaveCallsFor seats parts
     pub rooms_are : AreRoomsOf parts rooms
     pub room : HasRoomForParts answers parts
+
+  -- A part was carried out, and its answers were put behind those that were there.
+  pub record RunsPart (c : Config) (seats after : Seats) (part : PartOf Step) (answers told : LifeAnswers) (store now : Store B b) : Type 0 where
+    pub gains : GainsPart c seats.dem after.dem seats.queue after.queue part (told_in answers.own) (told_in told.own) (map told_in answers.told.items)
+        (map told_in told.told.items) store now
+    pub told_len : vec_len told.told ≡ vec_len answers.told + width part
+
+  -- Whatever parts come behind this one: where all could be carried out, what it left can carry out those.
+  abbrev pub CanRunBehind : {F : _} {g : _} → Locks F g → Config → (part : PartOf Step) → (seats after : Seats) → (store now : Store B b)
+      → (rooms later : List BlockRoom) → (answers told : LifeAnswers) → Type 0
+  CanRunBehind locks c part seats after store now rooms later answers told = (rest : List (PartOf Step))
+      → CanRunParts locks c seats store rooms answers (part ∷ rest) → CanRunParts locks c after now later told rest
 
   -- These parts were carried out, and these are the answers: so their calls, their deeds, and their arms.
   pub record HaveLivedParts (c : Config) (seats after : Seats) (store now : Store B b) (answers : LifeAnswers) (parts : List (PartOf Step)) : Type 0 where

@@ -9,12 +9,13 @@ use Rattle.flt_store.specs.Store.{driver_of}
 use Rattle.flt_life_model.specs.declared.action.Action.{Action}
 use Rattle.flt_life_model.specs.declared.action.Action.TheVariants.{Call, Queue}
 use Rattle.flt_life_model.specs.declared.replies.LaneReplies.{LaneReplies}
-use Rattle.flt_life_model.specs.Actions.{action_of, arm_count, arms_of, response_size}
+use Rattle.flt_life_model.specs.Actions.{action_of, arm_count, arms_of, call_count, queue_count, response_size}
 use Rattle.flt_life_model.specs.Answers.{Told, byte_room}
 use Rattle.flt_life_model.specs.Going.{GoesOn, WereGiven}
 use Rattle.flt_life_model.specs.Ordered.{Deed, with_deed}
 use Rattle.flt_life_model.specs.Room.{HasRoomForSteps, told_in}
 use Rattle.flt_shared.specs.Call.{Seat}
+use Rattle.flt_lane.specs.declared.locks.Seats.{Seats}
 use Rattle.flt_lane.specs.Living.{Carries}
 use Rattle.flt_lane.specs.Runs.{Makes, Queues, QueueSeat}
 
@@ -23,6 +24,11 @@ abbrev pub IsLockCall : Action → Type 0
 IsLockCall (Call op) = Unit {0}
 IsLockCall (Queue op) = Unit {0}
 IsLockCall _ = ⊥
+
+-- The seats have the calls left that an action makes.
+pub record HaveCallsOf (seats : Seats) (action : Action) : Type 0 where
+  pub dem : call_count action ≤ seats.dem.left
+  pub queue : queue_count action ≤ seats.queue.left
 
 -- There is room for the answer to what a step does.
 pub record HasRoomFor (replies : LaneReplies) (action : Action) : Type 0 where

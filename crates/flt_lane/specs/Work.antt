@@ -13,13 +13,18 @@ use Rattle.flt_shared.specs.Lock.{IsSeatOf}
 use Rattle.flt_shared.specs.declared.lock.DemLock.{DemLock}
 use Rattle.flt_lane.specs.declared.lane.LaneWork.{LaneWork}
 use Rattle.flt_lane.specs.declared.locks.Locks.{Locks}
+use Rattle.flt_lane.specs.declared.locks.Seats.{Seats}
 use Rattle.flt_lane.specs.Runs.{QueueSeat, RunsQueue, RunsSteps}
 
 -- Both seats are of these locks, and the queue has as many blocks as the status machine's configuration.
-pub record AreSeatsOf {F : _} {g : _} (locks : Locks F g) (work : LaneWork) : Type 0 where
-  pub dem : IsSeatOf locks.dem work.seats.dem
-  pub queue : turn.IsSeatOf locks.queue.turn work.seats.queue
-  pub blocks : work.seats.queue.start ≡ work.seats.dem.start.config.blocks
+pub record AreOfLocks {F : _} {g : _} (locks : Locks F g) (seats : Seats) : Type 0 where
+  pub dem : IsSeatOf locks.dem seats.dem
+  pub queue : turn.IsSeatOf locks.queue.turn seats.queue
+  pub blocks : seats.queue.start ≡ seats.dem.start.config.blocks
+
+-- The seats of a lane are of these locks.
+abbrev pub AreSeatsOf : {F : _} {g : _} → Locks F g → LaneWork → Type 0
+AreSeatsOf locks work = AreOfLocks locks work.seats
 
 -- The status machine behind a seat started from a state that fits this configuration, which is its own and is valid.
 pub record HasConfig (config : Config) (seat : Seat) : Type 0 where

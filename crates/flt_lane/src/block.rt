@@ -10,8 +10,7 @@ ghost use Rattle.flt_life_model.specs.Room.{steps_of, told_in};
 ghost use Rattle.flt_life_model.specs.declared.room.LaneRoom.{LaneRoom as RoomView};
 ghost use Rattle.flt_lane.specs.declared.lane.LaneWork.{LaneWork};
 ghost use Rattle.flt_lane.specs.declared.room.BlockRoom.{BlockRoom as BlockView};
-ghost use Rattle.flt_lane.specs.BlockRun.{GainsPart};
-ghost use Rattle.flt_lane.specs.Parts.{CanRunParts};
+ghost use Rattle.flt_lane.specs.Parts.{CanRunBehind, CanRunParts, RunsPart};
 ghost use Rattle.flt_lane.specs.Room.{IsBlockRoom, lanes_of};
 ghost use Rattle.flt_lane.specs.Seating.{AreSeated, CanJoin, CanSeat, HaveJoined, IsJoined, IsSeated};
 ghost use Rattle.flt_lane.specs.Stored.{AreRun};
@@ -144,12 +143,9 @@ pub(crate) fn run_lanes<'a, R: Threads + Wait + Sync, G: SharedGate, B: Blocks +
 )
     requires can { (later : List BlockView) × (rest : List (PartOf Step))
         × CanRunParts common.now.locks.now common.now.config.now seats.old store.old (room ∷ later) answers.old (inr (lanes_of room) ∷ rest) }
-    ensures gains { GainsPart common.now.config.now seats.old.dem seats.new.dem seats.old.queue seats.new.queue (inr (lanes_of room.entry))
-        (told_in answers.old.own) (told_in answers.new.own) (map told_in answers.old.told.items) (map told_in answers.new.told.items) store.old store.new }
-    ensures told_len { vec_len answers.new.told ≡ vec_len answers.old.told + length (lanes_of room.entry) }
-    ensures can { (later : List BlockView) (rest : List (PartOf Step))
-        → CanRunParts common.now.locks.now common.now.config.now seats.old store.old (room.entry ∷ later) answers.old (inr (lanes_of room.entry) ∷ rest)
-        → CanRunParts common.now.locks.now common.now.config.now seats.new store.new later answers.new rest }
+    ensures runs { RunsPart common.now.config.now seats.old seats.new (inr (lanes_of room.entry)) answers.old answers.new store.old store.new }
+    ensures can { (later : List BlockView) → CanRunBehind common.now.locks.now common.now.config.now (inr (lanes_of room.entry))
+        seats.old seats.new store.old store.new (room.entry ∷ later) later answers.old answers.new }
 {
     let Common {
         rt,

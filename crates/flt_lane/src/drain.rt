@@ -35,7 +35,7 @@ fn write_job<R: Wait, B: Blocks + Drop>(
     requires job { IsJob seat.old.start job.now }
     requires blocks { seat.old.start ≤ 40 }
     requires alive { (c : Config) × (c.blocks ≡ seat.old.start) × IsAlive c store.old }
-    requires left { 1 ≤ seat.old.left }
+    requires calls { 1 ≤ seat.old.left }
     ensures wrote { (c : Config) → c.blocks ≡ seat.old.start → WritesJob c job.now result store.old store.new }
     ensures noted { (noted : Answer Replied) × queued.IsCall seat.old seat.new (ops.Done job.now.block result) noted }
     ensures lock { turn.IsSeatOf queue.now.turn seat.new }
@@ -59,7 +59,7 @@ fn take_job<R: Wait, B: Blocks + Drop>(
 ) -> Option<bool>
     requires ready { CanDrain queue.now config.now seat.old }
     requires alive { IsAlive config.now store.old }
-    requires left { 2 ≤ seat.old.left }
+    requires calls { 2 ≤ seat.old.left }
     ensures looks { LooksForJob config.now seat.old seat.new result store.old store.new }
     ensures lock { turn.IsSeatOf queue.now.turn seat.new }
 {
@@ -83,7 +83,7 @@ pub(crate) fn drain<R: Wait, B: Blocks + Drop>(
 )
     requires ready { CanDrain queue.now config.now seat.old }
     requires alive { IsAlive config.now store.old }
-    requires left { 64 ≤ seat.old.left }
+    requires calls { 64 ≤ seat.old.left }
     requires room { HasRoomFor replies.old action.Drain }
     ensures takes { (dem : Seat) → TakesStep config.now dem dem seat.old seat.new steps.Drain replies.old replies.new store.old store.new }
     ensures lock { turn.IsSeatOf queue.now.turn seat.new }

@@ -1,13 +1,11 @@
 //! The parts of a life, one after the other, on its locks.
-ghost use Rattle.std.specs.Prelude.{◌≡◌, ◌+◌, ◌∷◌, [], List, map, vec_len};
+ghost use Rattle.std.specs.Prelude.{◌≡◌, ◌∷◌, [], List, vec_len};
 ghost use Rattle.flt_step.specs.declared.step.Step.{Step as StepView};
 ghost use Rattle.flt_step.specs.Part.{PartOf, part_of, parts_of};
-ghost use Rattle.flt_life_model.specs.Parts.{width};
 ghost use Rattle.flt_life_model.specs.Room.{told_in};
 ghost use Rattle.flt_shared.specs.Lock.{IsSeatOf};
 ghost use Rattle.flt_turn.specs.Seats as turn;
-ghost use Rattle.flt_lane.specs.BlockRun.{GainsPart};
-ghost use Rattle.flt_lane.specs.Parts.{CanRunParts, HaveLivedParts};
+ghost use Rattle.flt_lane.specs.Parts.{CanRunBehind, CanRunParts, HaveLivedParts, RunsPart};
 
 use crate::block::run_lanes;
 use crate::gate::SharedGate;
@@ -48,12 +46,9 @@ fn run_part<'a, R: Threads + Wait + Sync, G: SharedGate, B: Blocks + Drop>(
 )
     requires can { (rest : List (PartOf StepView))
         × CanRunParts common.now.locks.now common.now.config.now seats.old store.old rooms.old.rest.items answers.old (part_of part.now ∷ rest) }
-    ensures gains { GainsPart common.now.config.now seats.old.dem seats.new.dem seats.old.queue seats.new.queue (part_of part.now) (told_in answers.old.own) (told_in answers.new.own)
-        (map told_in answers.old.told.items) (map told_in answers.new.told.items) store.old store.new }
-    ensures told_len { vec_len answers.new.told ≡ vec_len answers.old.told + width (part_of part.now) }
-    ensures can { (rest : List (PartOf StepView))
-        → CanRunParts common.now.locks.now common.now.config.now seats.old store.old rooms.old.rest.items answers.old (part_of part.now ∷ rest)
-        → CanRunParts common.now.locks.now common.now.config.now seats.new store.new rooms.new.rest.items answers.new rest }
+    ensures runs { RunsPart common.now.config.now seats.old seats.new (part_of part.now) answers.old answers.new store.old store.new }
+    ensures can { CanRunBehind common.now.locks.now common.now.config.now (part_of part.now)
+        seats.old seats.new store.old store.new rooms.old.rest.items rooms.new.rest.items answers.old answers.new }
 {
     match part {
         Part::One(step) => {

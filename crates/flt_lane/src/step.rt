@@ -2,7 +2,7 @@
 ghost use Rattle.std.specs.Prelude.{◌≡◌, ◌+◌, ◌<◌, ◌≤◌};
 ghost use Rattle.flt_config.specs.declared.config.Config.{Config};
 ghost use Rattle.flt_flash.specs.State.{CanArm};
-ghost use Rattle.flt_life_model.specs.Actions.{IsPossible, action_of, arm_count, call_count, queue_count};
+ghost use Rattle.flt_life_model.specs.Actions.{IsPossible, action_of, arm_count};
 ghost use Rattle.flt_life_model.specs.declared.action.Action.TheVariants as action;
 ghost use Rattle.flt_step.specs.declared.step.Step.{Step as StepView};
 ghost use Rattle.flt_step.specs.declared.step.Step.TheVariants as steps;
@@ -10,9 +10,9 @@ ghost use Rattle.flt_shared.specs.Call.{Seat as DemView};
 ghost use Rattle.flt_shared.specs.Lock.{IsSeatOf};
 ghost use Rattle.flt_store.specs.Store.{IsAlive, driver_of};
 ghost use Rattle.flt_turn.specs.Seats as turn;
-ghost use Rattle.flt_lane.specs.Runs.{QueueSeat as Jobs, calls_by, queued_by};
-ghost use Rattle.flt_lane.specs.Stepped.{HasRoomFor, IsLockCall, MakesStep, TakesStep};
-ghost use Rattle.flt_lane.specs.Work.{AreReady, CanSave};
+ghost use Rattle.flt_lane.specs.Runs.{QueueSeat as Jobs};
+ghost use Rattle.flt_lane.specs.Stepped.{HasRoomFor, HaveCallsOf, IsLockCall, MakesStep, TakesStep};
+ghost use Rattle.flt_lane.specs.Work.{AreOfLocks, AreReady, CanSave};
 
 use crate::drain::drain;
 use crate::gate::Gate;
@@ -38,13 +38,10 @@ pub(crate) fn make_call<R: Wait>(
     replies: &mut LaneReplies,
     response: &mut ArrayVec<u8, RESPONSE>,
 )
-    requires lock { IsSeatOf locks.now.dem seats.old.dem }
-    requires queue { turn.IsSeatOf locks.now.queue.turn seats.old.queue }
-    requires blocks { seats.old.queue.start ≡ seats.old.dem.start.config.blocks }
+    requires seats { AreOfLocks locks.now seats.old }
     requires call { IsLockCall call }
     requires possible { IsPossible seats.old.dem.start.config call }
-    requires left { call_count call ≤ seats.old.dem.left }
-    requires queued { queue_count call ≤ seats.old.queue.left }
+    requires calls { HaveCallsOf seats.old call }
     requires room { HasRoomFor replies.old call }
     ensures made { (step : StepView) → action_of step ≡ call
         → MakesStep seats.old.dem seats.new.dem seats.old.queue seats.new.queue step replies.old replies.new }
@@ -83,7 +80,7 @@ fn save<R: Wait, B: Blocks + Drop>(
 )
     requires ready { CanSave dem.now config.now seat.old }
     requires alive { IsAlive config.now store.old }
-    requires left { 2 ≤ seat.old.left }
+    requires calls { 2 ≤ seat.old.left }
     requires room { HasRoomFor replies.old action.Save }
     ensures takes { (jobs : Jobs) → TakesStep config.now seat.old seat.new jobs jobs steps.Save replies.old replies.new store.old store.new }
     ensures lock { IsSeatOf dem.now seat.new }
@@ -145,8 +142,7 @@ pub(crate) fn do_step<R: Wait, G: Gate, B: Blocks + Drop>(
     requires alive { IsAlive common.now.config.now store.old }
     requires step { IsPossible common.now.config.now (action_of step.now) }
     requires arms { (driver_of store.old).device.bench.armed + arm_count (action_of step.now) ≤ 64 }
-    requires left { calls_by step.now ≤ seats.old.dem.left }
-    requires queued { queued_by step.now ≤ seats.old.queue.left }
+    requires calls { HaveCallsOf seats.old (action_of step.now) }
     requires room { HasRoomFor replies.old (action_of step.now) }
     ensures takes { TakesStep common.now.config.now seats.old.dem seats.new.dem seats.old.queue seats.new.queue step.now replies.old replies.new store.old store.new }
     ensures lock { IsSeatOf common.now.locks.now.dem seats.new.dem }

@@ -17,6 +17,7 @@ ghost use Rattle.flt_life_model.specs.Actions.{IsPossible, action_of};
 ghost use Rattle.flt_life_model.specs.Answers.{told_with};
 ghost use Rattle.flt_life_model.specs.Draining.{WritesJob};
 ghost use Rattle.flt_lives.specs.Living.{IsUnderWay};
+ghost use Rattle.flt_live.specs.Answered.{IsUp};
 ghost use Rattle.flt_live.specs.Draining.{HasDrained, IsJobTaken};
 ghost use Rattle.flt_live.specs.Made.{IsNoArm, MakesStep, ReadsSo, SavesSo};
 
@@ -125,7 +126,7 @@ fn take_job<D: Blocks + Drop>(
     requires alive { IsAlive config.now store.old }
     ensures blocks { queue.new.blocks ≡ queue.old.blocks }
     ensures running { (held spare : Generation) → IsRunning config.now held spare store.old → IsRunning config.now held spare store.new }
-    ensures follows { Follows (driver_of store.old) (driver_of store.new) }
+    ensures calls { Follows (driver_of store.old) (driver_of store.new) }
     ensures taken { (jobs : History) → queued.Stands config.now.blocks jobs queue.old
         → IsJobTaken config.now jobs result queue.new store.old store.new }
 {
@@ -145,7 +146,7 @@ fn drain<D: Blocks + Drop>(
     requires alive { IsAlive config.now store.old }
     ensures blocks { queue.new.blocks ≡ queue.old.blocks }
     ensures running { (held spare : Generation) → IsRunning config.now held spare store.old → IsRunning config.now held spare store.new }
-    ensures follows { Follows (driver_of store.old) (driver_of store.new) }
+    ensures calls { Follows (driver_of store.old) (driver_of store.new) }
     ensures drained { (jobs : History) → queued.Stands config.now.blocks jobs queue.old
         → HasDrained config.now jobs result.0 result.1 queue.new store.old store.new }
 {
@@ -172,15 +173,11 @@ pub(crate) fn make<D: Blocks + Drop>(
     action: Action,
 ) -> StepAnswer<ReplyKind>
     requires same { config_of unit.old ≡ config.now }
-    requires under_way { IsUnderWay config.now (state_of unit.old) }
-    requires blocks { queue.old.blocks ≡ config.now.blocks }
-    requires alive { IsAlive config.now store.old }
+    requires up { IsUp config.now (state_of unit.old) queue.old store.old }
     requires possible { IsPossible config.now action }
     requires no_arm { IsNoArm action }
     ensures config { config_of unit.new ≡ config_of unit.old }
-    ensures under_way { IsUnderWay config.now (state_of unit.new) }
-    ensures blocks { queue.new.blocks ≡ queue.old.blocks }
-    ensures alive { IsAlive config.now store.new }
+    ensures up { IsUp config.now (state_of unit.new) queue.new store.new }
     ensures made { (step : Step) → action_of step ≡ action → MakesStep config.now step (told_with buffers.new.response.items result)
         (state_of unit.old) (state_of unit.new) queue.old queue.new store.old store.new }
 {

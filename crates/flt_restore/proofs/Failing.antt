@@ -1,6 +1,6 @@
 -- What could not be read, stated for more calls.
-use Rattle.std.proofs.Common.{◌≡◌, ℕ, List, Option, Some, None, Result, Ok, Err, inl, inr, refl, ◌∙◌, subst, arith}
-use Rattle.std.specs.Prelude.{IfSome, IsErrOf, IsSomeAnd, IsTrue, OnErr}
+use Rattle.std.proofs.Common.{◌≡◌, ℕ, List, Option, Some, None, Result, Ok, Err, inl, inr, refl, sym, ◌∙◌, subst, arith}
+use Rattle.std.specs.Prelude.{IfErr, IfSome, IsErrOf, IsSomeAnd, IsTrue}
 use Rattle.std.specs.Result.{IsErrAnd}
 use Rattle.flt_flash.specs.Content.{Content}
 use Rattle.flt_flash.specs.Blocks.{BlocksState}
@@ -76,13 +76,14 @@ pub was_flash : {T U : Type 0} (result : Result T StartFault) (fault : StartFaul
 was_flash (Ok value) fault is flash = absurd is
 was_flash (Err e) fault is flash = cc
 
-pub on_err : {T E : Type 0} {P Q : Type 0} (result : Result T E) → (P → Q) → OnErr result P → OnErr result Q
-on_err (Ok value) next holds = tt
-on_err (Err fault) next holds = next holds
+pub if_err : {T E : Type 0} {P Q : E → Type 0} (result : Result T E) → ((fault : E) → P fault → Q fault) → IfErr result P → IfErr result Q
+if_err (Ok value) next holds = tt
+if_err (Err fault) next holds = next fault holds
 
-pub whenever : {T E : Type 0} {P : Type 0} (result : Result T E) → P → OnErr result P
-whenever (Ok value) holds = tt
-whenever (Err fault) holds = holds
+-- What holds of a fault holds of the answer that has it.
+pub if_err_of : {T E : Type 0} (P : E → Type 0) (result : Result T E) (fault : E) → IsErrAnd result (λ e. e ≡ fault) → P fault → IfErr result P
+if_err_of P (Ok value) fault is holds = absurd is
+if_err_of P (Err e) fault is holds = subst P (sym is) holds
 
 -- What is said of a block of one copy, or of an index of a part.
 module _ {Single : Type 0} (Both : Type 0) (index : ℕ) where

@@ -13,12 +13,12 @@ use Rattle.flt_restore.specs.Found.{Reads}
 use Rattle.flt_restore.specs.Judging.{told_as, as_told, Tells}
 
 pub no_reads : (state : BlocksState) → Reads state state
-no_reads state = record { values = λ block. refl; follows = no_call state; stays = λ is. is; image = λ is. refl; spent = refl }
+no_reads state = record { values = λ block. refl; calls = no_call state; stays = λ is. is; image = λ is. refl; spent = refl }
 
 pub more_reads : (first second third : BlocksState) → Reads first second → Reads second third → Reads first third
 more_reads first second third one two = record {
   values = λ block. two.values block ∙ one.values block;
-  follows = more_calls first second third one.follows two.follows;
+  calls = more_calls first second third one.calls two.calls;
   stays = λ is. two.stays (one.stays is);
   image = λ is. two.image (one.stays is) ∙ one.image is;
   spent = two.spent ∙ one.spent;
@@ -29,7 +29,7 @@ pub same_values : (before after : BlocksState) → Reads before after → after.
 same_values before after reads = λ i block. reads.values block i
 
 pub rises : (before middle after : BlocksState) → Reads before middle → HasRisenBy 3 middle.device.faults after.device.faults → HasRisenBy 3 before.device.faults after.device.faults
-rises before middle after reads rose = omega (arith, reads.follows.counts, rose)
+rises before middle after reads rose = omega (arith, reads.calls.counts, rose)
 
 -- What holds of a fault holds of the answer that passes it on.
 pub handed_on : {T : Type 0} (P : StartFault → Type 0) (result : Result T StartFault) (fault : StartFault) → IsErrAnd result (λ e. e ≡ fault) → P fault → IfErr result P

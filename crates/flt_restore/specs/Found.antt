@@ -44,7 +44,8 @@ IsSingle id index = IsSomeAnd (block_in block_table id) (λ block. IsIndexOf blo
 -- Any number of reads, which change no block and never make the driver spent; they leave the image of a driver that is not stale.
 pub record Reads (before after : BlocksState) : Type 0 where
   pub values : SameValues before after
-  pub follows : Follows before after
+  -- Its numbers and its room are the same, it stays mounted, and no count of its device fell.
+  pub calls : Follows before after
   pub stays : IsFalse before.is_stale → IsFalse after.is_stale
   pub image : IsFalse before.is_stale → SameImage before after
   pub spent : SameSpent before after

@@ -1,4 +1,5 @@
 pub mod Found
+pub mod Needs
 pub mod Learning
 pub mod Judging
 pub mod Restored

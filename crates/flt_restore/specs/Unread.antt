@@ -3,6 +3,8 @@ use Rattle.std.specs.Prelude.{◌≡◌, ◌⊎◌, ℕ, List, Some, Err, IsTrue
 use Rattle.flt_flash.specs.Content.{Content, bytes}
 use Rattle.flt_flash.specs.Blocks.{BlocksState}
 use Rattle.flt_flash.specs.Calls.{Follows}
+use Rattle.flt_flash.specs.State.{HasRisenBy}
+use Rattle.flt_flash.specs.declared.blocks.BlockFault.{BlockFault}
 use Rattle.flt_flash.specs.declared.blocks.BlockFault.TheVariants.{Flash}
 use Rattle.flt_nvm.specs.declared.got.Got.{Got}
 use Rattle.flt_nvm.specs.Leaves.{HasNoBytes}
@@ -21,6 +23,12 @@ pub record FailsToRead (number : ℕ) (before after : BlocksState) : Type 0 wher
   pub fails : LooksInAJob {T = Got} number first last (Err Flash)
   pub later : Follows last after
   pub named : after.last_failed ≡ Some number
+
+-- A read failed, and this is what could not be read: its fault is the flash's, which failed in three tries.
+pub record FailsAsFlash (IsUnread : BlocksState → BlocksState → Type 0) (before after : BlocksState) (fault : BlockFault) : Type 0 where
+  pub fault_is : fault ≡ Flash
+  pub unread : IsUnread before after
+  pub flash : HasRisenBy 3 before.device.faults after.device.faults
 
 -- The first copy of the commit could not be read, and then the second; or one copy could not be read, and the other has no bytes.
 abbrev pub IsCommitUnread : BlocksState → BlocksState → Type 0

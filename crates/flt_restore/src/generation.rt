@@ -1,11 +1,11 @@
 //! The generation that a commit names, with its parts.
-ghost use Rattle.std.specs.Prelude.{◌≡◌, ◌≤◌, ◌<◌, length, Ok, IfErr, IfOk, OnOk, IsErrOf, IsTrue, IsFalse};
+ghost use Rattle.std.specs.Prelude.{◌≡◌, length, Ok, IfErr, IfOk, OnOk, IsErrOf, IsFalse};
 ghost use Rattle.flt_nvm.specs.Driver.{driver_of, table_of};
-ghost use Rattle.flt_image.specs.Table.{block_table};
-ghost use Rattle.flt_store_model.specs.Layout.{first_part, end_part, mark_number, parts};
+ghost use Rattle.flt_store_model.specs.Layout.{mark_number, parts};
 ghost use Rattle.flt_store_model.specs.Form.{IsCommit};
 ghost use Rattle.flt_store_model.specs.Holding.{held_by, named, parts_read, with_named};
 ghost use Rattle.flt_restore.specs.Found.{content_of, Reads};
+ghost use Rattle.flt_restore.specs.Needs.{IsNamedPart, IsReadable};
 ghost use Rattle.flt_restore.specs.declared.fault.StartFault.TheVariants.{Flash};
 ghost use Rattle.flt_restore.specs.Unread.{IsNamedUnread, IsPartUnread};
 ghost use Rattle.flt_restore.specs.Judging.{IsReadFrom, Tells};
@@ -30,11 +30,8 @@ fn read_part<B: Blocks + Drop>(
     id: u16,
     out: &mut Persist,
 ) -> Result<(), StartFault>
-    requires table { table_of nvm.old ≡ block_table }
-    requires mounted { IsTrue (driver_of nvm.old).has_mounted }
-    requires form { IsCommit config.now commit.now }
-    requires first { first_part ≤ id }
-    requires end { id < end_part }
+    requires readable { IsReadable nvm.old }
+    requires part { IsNamedPart config.now commit.now id }
     requires states { length out.old.events.items ≡ length config.now.events.items }
     ensures told { OnOk result (with_named config.now (driver_of nvm.old).value commit.now id out.old ≡ Ok out.new) }
     ensures refused { IfErr result (Tells config.now (driver_of nvm.old) (driver_of nvm.new)
@@ -67,8 +64,7 @@ fn read_parts<B: Blocks + Drop>(
     commit: &Commit,
     out: &mut Persist,
 ) -> Result<(), StartFault>
-    requires table { table_of nvm.old ≡ block_table }
-    requires mounted { IsTrue (driver_of nvm.old).has_mounted }
+    requires readable { IsReadable nvm.old }
     requires form { IsCommit config.now commit.now }
     ensures told { OnOk result (parts_read config.now (driver_of nvm.old).value commit.now parts ≡ Ok out.new) }
     ensures refused { IfErr result (Tells config.now (driver_of nvm.old) (driver_of nvm.new)
@@ -92,8 +88,7 @@ fn read_generation<B: Blocks + Drop>(
     copy: u8,
     out: &mut Persist,
 ) -> Result<Option<CommitCopy>, StartFault>
-    requires table { table_of nvm.old ≡ block_table }
-    requires mounted { IsTrue (driver_of nvm.old).has_mounted }
+    requires readable { IsReadable nvm.old }
     ensures told { IfOk result (λ commit. named config.now (driver_of nvm.old).value (content_of held) ≡ Ok (generation commit out.new)) }
     ensures source { IfOk result (λ commit. IsReadFrom config.now (content_of held) copy commit) }
     ensures refused { IfErr result (Tells config.now (driver_of nvm.old) (driver_of nvm.new) (named config.now (driver_of nvm.old).value (content_of held))) }
@@ -129,8 +124,7 @@ pub(crate) fn read_image<B: Blocks + Drop>(
     source: CommitRead,
     out: &mut Persist,
 ) -> Result<Option<CommitCopy>, StartFault>
-    requires table { table_of nvm.old ≡ block_table }
-    requires mounted { IsTrue (driver_of nvm.old).has_mounted }
+    requires readable { IsReadable nvm.old }
     requires not_stale { IsFalse (driver_of nvm.old).is_stale }
     requires mark { content_of mark.now ≡ (driver_of nvm.old).value mark_number }
     ensures told { IfOk result (λ commit. held_by config.now (driver_of nvm.old).value (content_of source.held) ≡ Ok (generation commit out.new)) }

@@ -1,11 +1,11 @@
 //! The bytes of the blocks that a commit names.
-ghost use Rattle.std.specs.Prelude.{◌≡◌, ◌≢◌, ◌<◌, ◌≤◌, ℕ, [], length, IfNone, IfSome, IsTrue};
+ghost use Rattle.std.specs.Prelude.{◌≡◌, ◌≢◌, ◌≤◌, ℕ, [], length, IfNone, IfSome};
 ghost use Rattle.flt_nvm.specs.Driver.{driver_of, table_of};
-ghost use Rattle.flt_image.specs.Table.{block_table};
 ghost use Rattle.flt_image.specs.Blocks.{bytes_at};
-ghost use Rattle.flt_store_model.specs.Layout.{first_part, end_part, is_used};
+ghost use Rattle.flt_store_model.specs.Layout.{first_part};
 ghost use Rattle.flt_store_model.specs.Form.{IsCommit};
 ghost use Rattle.flt_restore.specs.Found.{content_of, Reads};
+ghost use Rattle.flt_restore.specs.Needs.{IsNamedPart, IsReadable};
 ghost use Rattle.flt_restore.specs.Learning.{AreLearned, IsLearned, part_in};
 
 use crate::reading::{Held, read_content};
@@ -35,11 +35,8 @@ fn read_block<B: Blocks + Drop>(
     id: u16,
     blocks: &mut StateBlocks,
 )
-    requires table { table_of nvm.old ≡ block_table }
-    requires mounted { IsTrue (driver_of nvm.old).has_mounted }
-    requires form { IsCommit config.now commit.now }
-    requires first { first_part ≤ id }
-    requires end { id < end_part }
+    requires readable { IsReadable nvm.old }
+    requires part { IsNamedPart config.now commit.now id }
     ensures learned { IsLearned config.now (driver_of nvm.old) (driver_of nvm.new) commit.now id (bytes_at blocks.new id) }
     ensures others { (other : ℕ) → first_part ≤ other → other ≢ id → bytes_at blocks.new other ≡ bytes_at blocks.old other }
     ensures reads { Reads (driver_of nvm.old) (driver_of nvm.new) }
@@ -59,8 +56,7 @@ fn read_named_blocks<B: Blocks + Drop>(
     config: &ValidConfig,
     commit: &Commit,
 ) -> StateBlocks
-    requires table { table_of nvm.old ≡ block_table }
-    requires mounted { IsTrue (driver_of nvm.old).has_mounted }
+    requires readable { IsReadable nvm.old }
     requires form { IsCommit config.now commit.now }
     ensures learned { AreLearned config.now (driver_of nvm.old) (driver_of nvm.new) commit.now (bytes_at result) }
     ensures reads { Reads (driver_of nvm.old) (driver_of nvm.new) }
@@ -80,8 +76,7 @@ pub fn read_blocks<B: Blocks + Drop>(
     config: &ValidConfig,
     commit: &Option<Commit>,
 ) -> StateBlocks
-    requires table { table_of nvm.old ≡ block_table }
-    requires mounted { IsTrue (driver_of nvm.old).has_mounted }
+    requires readable { IsReadable nvm.old }
     requires form { IfSome commit.now (IsCommit config.now) }
     ensures none { IfNone commit.now ((id : ℕ) → bytes_at result id ≡ []) }
     ensures learned { IfSome commit.now (λ commit. AreLearned config.now (driver_of nvm.old) (driver_of nvm.new) commit (bytes_at result)) }

@@ -1,15 +1,13 @@
 //! Reads of a mounted driver, which fail only if the flash failed in three tries, and what they find.
-ghost use Rattle.std.specs.Prelude.{◌≡◌, ◌-◌, ◌≤◌, ◌<◌, ℕ, List, length, take, IfErr, IfOk, OnOk, OnErr, IsTrue, IsFalse};
+ghost use Rattle.std.specs.Prelude.{◌≡◌, ◌-◌, ◌≤◌, ◌<◌, ℕ, List, length, take, IfErr, IfOk, OnOk, IsFalse};
 ghost use Rattle.flt_flash.specs.Content.{Content};
-ghost use Rattle.flt_flash.specs.State.{HasRisenBy};
-ghost use Rattle.flt_flash.specs.declared.blocks.BlockFault.TheVariants.{Flash};
 ghost use Rattle.flt_nvm.specs.Driver.{driver_of, table_of};
 ghost use Rattle.flt_nvm.specs.Leaves.{GotOf};
-ghost use Rattle.flt_image.specs.Table.{block_table};
 ghost use Rattle.flt_store_model.specs.Layout.{commit_id, number_of};
 ghost use Rattle.flt_restore.specs.Found.{content_of, IsShortRead, IsSingle, Reads};
 ghost use Rattle.flt_restore.specs.Judging.{IsSource};
-ghost use Rattle.flt_restore.specs.Unread.{FailsToRead, IsCommitUnread};
+ghost use Rattle.flt_restore.specs.Needs.{IsReadable};
+ghost use Rattle.flt_restore.specs.Unread.{FailsAsFlash, FailsToRead, IsCommitUnread};
 
 use arrayvec::ArrayVec;
 use flt_flash::{BlockFault, Blocks, Found};
@@ -54,13 +52,10 @@ pub(crate) fn read_content<B: Blocks + Drop>(
     id: u16,
     index: u8,
 ) -> Result<Held, BlockFault>
-    requires table { table_of nvm.old ≡ block_table }
-    requires mounted { IsTrue (driver_of nvm.old).has_mounted }
+    requires readable { IsReadable nvm.old }
     requires single { IsSingle id index }
     ensures content { IfOk result (λ held. content_of held ≡ (driver_of nvm.old).value (number_of id index)) }
-    ensures unread { OnErr result (FailsToRead (number_of id index) (driver_of nvm.old) (driver_of nvm.new)) }
-    ensures fault { IfErr result (λ fault. fault ≡ Flash) }
-    ensures flash { OnErr result (HasRisenBy 3 (driver_of nvm.old).device.faults (driver_of nvm.new).device.faults) }
+    ensures fails { IfErr result (FailsAsFlash (FailsToRead (number_of id index)) (driver_of nvm.old) (driver_of nvm.new)) }
     ensures not_stale { OnOk result (IsFalse (driver_of nvm.new).is_stale) }
     ensures reads { Reads (driver_of nvm.old) (driver_of nvm.new) }
     ensures table { table_of nvm.new ≡ table_of nvm.old }
@@ -79,15 +74,12 @@ pub(crate) struct CommitRead {
 
 /// Reads copy 1 or copy 2 of the commit.
 fn read_source<B: Blocks + Drop>(nvm: &mut Nvm<B>, copy: u8) -> Result<CommitRead, BlockFault>
-    requires table { table_of nvm.old ≡ block_table }
-    requires mounted { IsTrue (driver_of nvm.old).has_mounted }
+    requires readable { IsReadable nvm.old }
     requires least { 1 ≤ copy }
     requires most { copy ≤ 2 }
     ensures content { IfOk result (λ source. content_of source.held ≡ (driver_of nvm.old).value (number_of commit_id (copy - 1))) }
-    ensures unread { OnErr result (FailsToRead (number_of commit_id (copy - 1)) (driver_of nvm.old) (driver_of nvm.new)) }
     ensures copy { IfOk result (λ source. source.copy ≡ copy) }
-    ensures fault { IfErr result (λ fault. fault ≡ Flash) }
-    ensures flash { OnErr result (HasRisenBy 3 (driver_of nvm.old).device.faults (driver_of nvm.new).device.faults) }
+    ensures fails { IfErr result (FailsAsFlash (FailsToRead (number_of commit_id (copy - 1))) (driver_of nvm.old) (driver_of nvm.new)) }
     ensures reads { Reads (driver_of nvm.old) (driver_of nvm.new) }
     ensures table { table_of nvm.new ≡ table_of nvm.old }
 {
@@ -102,13 +94,10 @@ fn read_source<B: Blocks + Drop>(nvm: &mut Nvm<B>, copy: u8) -> Result<CommitRea
 /// Reads the copy of the commit that counts: copy 1 if it has bytes, else copy 2 if that has bytes, else copy 1. If copy 1
 /// can't be read in three tries and copy 2 has bytes, copy 2 is read.
 pub(crate) fn read_commit<B: Blocks + Drop>(nvm: &mut Nvm<B>) -> Result<CommitRead, BlockFault>
-    requires table { table_of nvm.old ≡ block_table }
-    requires mounted { IsTrue (driver_of nvm.old).has_mounted }
+    requires readable { IsReadable nvm.old }
     requires not_stale { IsFalse (driver_of nvm.old).is_stale }
     ensures source { IfOk result (λ source. IsSource (driver_of nvm.old) (driver_of nvm.new) (content_of source.held) source.copy) }
-    ensures unread { OnErr result (IsCommitUnread (driver_of nvm.old) (driver_of nvm.new)) }
-    ensures fault { IfErr result (λ fault. fault ≡ Flash) }
-    ensures flash { OnErr result (HasRisenBy 3 (driver_of nvm.old).device.faults (driver_of nvm.new).device.faults) }
+    ensures fails { IfErr result (FailsAsFlash IsCommitUnread (driver_of nvm.old) (driver_of nvm.new)) }
     ensures reads { Reads (driver_of nvm.old) (driver_of nvm.new) }
     ensures table { table_of nvm.new ≡ table_of nvm.old }
 {

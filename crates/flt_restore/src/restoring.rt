@@ -1,10 +1,9 @@
 //! Start-up's reading: the image is judged block by block, in the order of its definition.
 ghost use Rattle.std.specs.Prelude.{◌≡◌, IfOk, Err, IsErrOf, IsTrue, IsFalse, ◌↔◌};
-ghost use Rattle.flt_flash.specs.Calls.{Follows, SameImage, SameSpent, SameValues};
-ghost use Rattle.flt_nvm.specs.Driver.{driver_of, table_of};
-ghost use Rattle.flt_image.specs.Table.{block_table};
+ghost use Rattle.flt_nvm.specs.Driver.{driver_of};
 ghost use Rattle.flt_restore.specs.declared.fault.StartFault.TheVariants.{Flash, SequenceSpent};
 ghost use Rattle.flt_restore.specs.Unread.{IsImageUnread};
+ghost use Rattle.flt_restore.specs.Needs.{IsReadable, ReadsImage};
 ghost use Rattle.flt_restore.specs.Restored.{IsRestored, Restores, Refuses, IsMarkDue};
 ghost use Rattle.flt_store_model.specs.Form.{mark_of};
 ghost use Rattle.flt_store_model.specs.Layout.{mark_number};
@@ -30,20 +29,14 @@ pub fn judge<B: Blocks + Drop>(
     config: &ValidConfig,
     out: &mut Persist,
 ) -> Result<Restored, StartFault>
-    requires table { table_of nvm.old ≡ block_table }
-    requires mounted { IsTrue (driver_of nvm.old).has_mounted }
+    requires readable { IsReadable nvm.old }
     requires not_stale { IsFalse (driver_of nvm.old).is_stale }
     ensures restored { IfOk result (λ found. IsRestored config.now (driver_of nvm.old) (driver_of nvm.new) found.commit out.new) }
     ensures mark { IfOk result (λ found. IsTrue found.is_mark_due ↔ IsMarkDue (mark_of config.now) ((driver_of nvm.old).value mark_number)) }
     ensures refused { (fault : StartFault) → result ≡ Err fault → Refuses config.now (driver_of nvm.old) (driver_of nvm.new) fault }
     ensures unspent { ¬ IsErrOf result SequenceSpent }
     ensures unread { IsErrOf result Flash → IsImageUnread config.now (driver_of nvm.old) (driver_of nvm.new) }
-    ensures stays { IsFalse (driver_of nvm.new).is_stale }
-    ensures values { SameValues (driver_of nvm.old) (driver_of nvm.new) }
-    ensures image { SameImage (driver_of nvm.old) (driver_of nvm.new) }
-    ensures spent { SameSpent (driver_of nvm.old) (driver_of nvm.new) }
-    ensures follows { Follows (driver_of nvm.old) (driver_of nvm.new) }
-    ensures table { table_of nvm.new ≡ table_of nvm.old }
+    ensures reads { ReadsImage nvm.old nvm.new }
 {
     let mark = read_content(nvm, MARK_ID, 0)?;
     let source = read_commit(nvm)?;
@@ -61,19 +54,13 @@ pub fn restore<B: Blocks + Drop>(
     config: &ValidConfig,
     out: &mut Persist,
 ) -> Result<Restored, StartFault>
-    requires table { table_of nvm.old ≡ block_table }
-    requires mounted { IsTrue (driver_of nvm.old).has_mounted }
+    requires readable { IsReadable nvm.old }
     requires not_stale { IsFalse (driver_of nvm.old).is_stale }
     ensures restored { IfOk result (λ found. Restores config.now (driver_of nvm.old) (driver_of nvm.new) found.commit out.new) }
     ensures mark { IfOk result (λ found. IsTrue found.is_mark_due ↔ IsMarkDue (mark_of config.now) ((driver_of nvm.old).value mark_number)) }
     ensures refused { (fault : StartFault) → result ≡ Err fault → Refuses config.now (driver_of nvm.old) (driver_of nvm.new) fault }
     ensures unread { IsErrOf result Flash → IsImageUnread config.now (driver_of nvm.old) (driver_of nvm.new) }
-    ensures stays { IsFalse (driver_of nvm.new).is_stale }
-    ensures values { SameValues (driver_of nvm.old) (driver_of nvm.new) }
-    ensures image { SameImage (driver_of nvm.old) (driver_of nvm.new) }
-    ensures spent { SameSpent (driver_of nvm.old) (driver_of nvm.new) }
-    ensures follows { Follows (driver_of nvm.old) (driver_of nvm.new) }
-    ensures table { table_of nvm.new ≡ table_of nvm.old }
+    ensures reads { ReadsImage nvm.old nvm.new }
 {
     let found = judge(nvm, config, out)?;
     if nvm.spent() {

@@ -98,11 +98,8 @@ gains g c =
     (has_run_lanes c.args.common.now.locks.now c.args.common.now.config.now before c.seat_lanes-works.new.main after (lanes_of c.args.room) c.seat_lanes-works.result.items c.run_works.new.works.items
     told told_after c.args.store.now c.run_works.new.store can.main.0 can.main.1 c.seat_lanes-works.ensures.seated c.run_works.ensures.ran c.join_lanes.ensures.joined)
 
-pub returns-clause-gains : goal.returns-clause-gains
-returns-clause-gains g c = gains g c
-
-pub returns-clause-told_len : goal.returns-clause-told_len
-returns-clause-told_len g c = told_len g c
+pub returns-clause-runs : goal.returns-clause-runs
+returns-clause-runs g c = record { gains = gains g c; told_len = told_len g c }
 
 pub returns-clause-can : goal.returns-clause-can
 returns-clause-can g c = λ later rest can.

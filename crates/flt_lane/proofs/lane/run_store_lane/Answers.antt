@@ -21,17 +21,15 @@ do_step-requires-clause-ready g c =
 pub do_step-requires-clause-alive : goal.do_step-requires-clause-alive
 do_step-requires-clause-alive g c = (c.loop-index.invariant.carries []).alive c.requires.store.alive
 
-pub do_step-requires-clause-left : goal.do_step-requires-clause-left
-do_step-requires-clause-left g c =
-    calls_left c.args.locks.now c.args.lane.now c.loop-index.lane c.loop-index.index c.index-steps-index.result c.requires.ready c.loop-index.invariant.part (search rules) c.index-steps-index.is
+pub do_step-requires-clause-calls : goal.do_step-requires-clause-calls
+do_step-requires-clause-calls g c = record {
+  dem = calls_left c.args.locks.now c.args.lane.now c.loop-index.lane c.loop-index.index c.index-steps-index.result c.requires.ready c.loop-index.invariant.part (search rules) c.index-steps-index.is;
+  queue = queued_left c.args.locks.now c.args.lane.now c.loop-index.lane c.loop-index.index c.index-steps-index.result c.requires.ready c.loop-index.invariant.part (search rules) c.index-steps-index.is;
+}
 
 pub do_step-requires-clause-room : goal.do_step-requires-clause-room
 do_step-requires-clause-room g c =
     room_next c.args.locks.now c.args.lane.now c.loop-index.lane c.loop-index.index c.index-steps-index.result c.requires.ready c.loop-index.invariant.part (search rules) c.index-steps-index.is
-
-pub do_step-requires-clause-queued : goal.do_step-requires-clause-queued
-do_step-requires-clause-queued g c =
-    queued_left c.args.locks.now c.args.lane.now c.loop-index.lane c.loop-index.index c.index-steps-index.result c.requires.ready c.loop-index.invariant.part (search rules) c.index-steps-index.is
 
 pub loop-index-preserved : goal.loop-index-preserved
 loop-index-preserved g c =

@@ -3,7 +3,8 @@ use Rattle.flt_step.specs.declared.step.Part.{Part}
 use Rattle.flt_step.specs.Part.{part_of}
 use Rattle.flt_life_model.specs.Room.{told_in}
 use Rattle.flt_lane.specs.BlockRun.{GainsPart}
-use Rattle.flt_lane.specs.Parts.{CanRunParts}
+use Rattle.flt_lane.specs.declared.living.LifeAnswers.{LifeAnswers}
+use Rattle.flt_lane.specs.Parts.{CanRunParts, RunsPart}
 use Rattle.flt_lane.proofs.Lives.{can_behind, can_next, gains_one}
 use Rattle.flt_lane.proofs.Rooms.{next_room}
 use Rattle.flt_lane.proofs.living.run_part.Given as given
@@ -17,8 +18,13 @@ gains_step g c =
     gains_one c.args.common.now.config.now c.args.seats.now.dem c.do_step.new.seats.dem c.args.seats.now.queue c.do_step.new.seats.queue c.args.store.now c.do_step.new.store c.in-One.step c.args.answers.now.own c.do_step.new.replies
     (map told_in c.args.answers.now.told.items) c.requires.can.1.main.0 c.requires.can.1.main.1 c.do_step.ensures.takes
 
-pub returns-in-One-clause-gains : goal.returns-in-One-clause-gains
-returns-in-One-clause-gains g c = rw c.in-One.is (gains_step g c)
+pub returns-in-One-clause-runs : goal.returns-in-One-clause-runs
+returns-in-One-clause-runs g c =
+    let answers = c.args.answers.now in
+    let told : LifeAnswers = record { own = c.do_step.new.replies; told = answers.told; response = c.do_step.new.response } in
+    let runs : RunsPart c.args.common.now.config.now c.args.seats.now c.do_step.new.seats (inl c.in-One.step) answers told c.args.store.now c.do_step.new.store =
+    record { gains = gains_step g c; told_len = omega arith } in
+    rw c.in-One.is runs
 
 pub returns-in-One-clause-can : goal.returns-in-One-clause-can
 returns-in-One-clause-can g c = λ rest given.
@@ -39,11 +45,8 @@ run_lanes-requires-clause-can g c κs within = (
       (ap part_of c.in-Lanes.is) c.in-Some.ensures.items c.requires.can.1,
 )
 
-pub returns-in-Some-clause-gains : goal.returns-in-Some-clause-gains
-returns-in-Some-clause-gains g c = rw (next_room (part_of c.args.part.now) _ c.requires.can.0 c.in-Some.room _ _ (ap part_of c.in-Lanes.is) c.in-Some.ensures.items c.requires.can.1.rooms_are) c.run_lanes.ensures.gains
-
-pub returns-in-Some-clause-told_len : goal.returns-in-Some-clause-told_len
-returns-in-Some-clause-told_len g c = rw (next_room (part_of c.args.part.now) _ c.requires.can.0 c.in-Some.room _ _ (ap part_of c.in-Lanes.is) c.in-Some.ensures.items c.requires.can.1.rooms_are) c.run_lanes.ensures.told_len
+pub returns-in-Some-clause-runs : goal.returns-in-Some-clause-runs
+returns-in-Some-clause-runs g c = rw (next_room (part_of c.args.part.now) _ c.requires.can.0 c.in-Some.room _ _ (ap part_of c.in-Lanes.is) c.in-Some.ensures.items c.requires.can.1.rooms_are) c.run_lanes.ensures.runs
 
 pub returns-in-Some-clause-can : goal.returns-in-Some-clause-can
 returns-in-Some-clause-can g c = λ rest given. c.run_lanes.ensures.can c.next.new.self.rest.items rest

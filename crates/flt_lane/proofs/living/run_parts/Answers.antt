@@ -25,5 +25,5 @@ loop-part-preserved g c =
       lived = subst (λ (l : List (PartOf Step)). HaveLivedParts c.args.common.now.config.now c.args.seats.now c.run_part.new.seats c.args.store.now c.run_part.new.store c.run_part.new.answers l)
           (sym (done_more parts index c.part-item.result c.loop-part-test.true c.part-item.is))
           (lived_more c.args.common.now.config.now c.args.seats.now c.args.store.now c.loop-part.seats c.run_part.new.seats c.loop-part.store c.run_part.new.store c.loop-part.answers c.run_part.new.answers
-          (done_of parts index) (part_of c.part-item.result) c.loop-part.invariant.lived c.run_part.ensures.gains c.run_part.ensures.told_len);
+          (done_of parts index) (part_of c.part-item.result) c.loop-part.invariant.lived c.run_part.ensures.runs.gains c.run_part.ensures.runs.told_len);
     }

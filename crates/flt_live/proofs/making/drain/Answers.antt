@@ -39,7 +39,7 @@ loop-job-preserved g c =
       blocks = c.take_job.ensures.blocks ∙ before.invariant.blocks;
       running = λ held spare running. c.take_job.ensures.running held spare (before.invariant.running held spare running);
       few = one_each was before.written before.failed before._job _ _ some none few;
-      follows = more_calls (driver_of c.args.store.now) (driver_of before.store) (driver_of c.take_job.new.store) before.invariant.follows c.take_job.ensures.follows;
+      follows = more_calls (driver_of c.args.store.now) (driver_of before.store) (driver_of c.take_job.new.store) before.invariant.follows c.take_job.ensures.calls;
       draining = λ jobs stands.
           (let on = before.invariant.draining jobs stands in
           subst (λ n. IsDraining c.args.config.now jobs (before._job + 1) n (before.failed + c.from-failed.result) c.take_job.new.queue c.args.store.now c.take_job.new.store) (omega (arith, some))
@@ -76,6 +76,6 @@ returns-clause-drained g c = λ jobs stands.
     drains_full c.args.config.now jobs c.args.store.now on.written on.failed on.queue on.store
     (subst (λ n. IsDraining c.args.config.now jobs n on.written on.failed on.queue c.args.store.now on.store) all (on.invariant.draining jobs stands))
 
-pub returns-in_default-clause-follows : goal.returns-in_default-clause-follows
-returns-in_default-clause-follows g c =
-    more_calls (driver_of c.args.store.now) (driver_of c.loop-job.store) (driver_of c.take_job.new.store) c.loop-job.invariant.follows c.take_job.ensures.follows
+pub returns-in_default-clause-calls : goal.returns-in_default-clause-calls
+returns-in_default-clause-calls g c =
+    more_calls (driver_of c.args.store.now) (driver_of c.loop-job.store) (driver_of c.take_job.new.store) c.loop-job.invariant.follows c.take_job.ensures.calls

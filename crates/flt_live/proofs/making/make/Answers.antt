@@ -11,11 +11,11 @@ pub returns-in-Call-clause-made : goal.returns-in-Call-clause-made
 returns-in-Call-clause-made g c = λ step is.
     let possible = subst (IsPossible c.args.config.now) c.in-Call.is c.requires.possible in
     made_call c.args.config.now step c.in-Call.op _ _ (is ∙ c.in-Call.is) possible.0 (state_of c.args.unit.now) (state_of c.apply_into-reply.new.self) c.args.queue.now c.args.store.now
-    c.apply_into-reply.ensures.stands c.apply_into-reply.ensures.answer
+    c.apply_into-reply.ensures.applied.stands c.apply_into-reply.ensures.applied.answer
 
 pub returns-in-Queue-clause-made : goal.returns-in-Queue-clause-made
 returns-in-Queue-clause-made g c = λ step is.
-    let blocks = c.requires.blocks in
+    let blocks = c.requires.up.blocks in
     let old = c.args.queue.now in
     made_queue c.args.config.now step c.in-Queue.op _ _ (is ∙ c.in-Queue.is) (subst (IsPossible c.args.config.now) c.in-Queue.is c.requires.possible).0 (state_of c.args.unit.now) old c.apply-reply.new.self c.args.store.now
     (λ jobs stands. subst (λ n. Stands n (c.in-Queue.op ∷ jobs) c.apply-reply.new.self) blocks (c.apply-reply.ensures.stands jobs (subst (λ n. Stands n jobs old) (sym blocks) stands)))
@@ -29,18 +29,22 @@ returns-in-Save-clause-made g c = λ step is.
 pub returns-in-Get-clause-made : goal.returns-in-Get-clause-made
 returns-in-Get-clause-made g c = λ step is.
     let response = c.args.buffers.now.response.items in
-    let most = c.requires.under_way.valid.blocks in
+    let most = c.requires.up.under_way.valid.blocks in
     let here : c.in-Get.block < c.args.config.now.blocks = subst (IsPossible c.args.config.now) c.in-Get.is c.requires.possible in
     let below : c.in-Get.block < applications = omega (arith, here, most) in
     made_get c.args.config.now step (told_with response c.get.result) c.in-Get.block (is ∙ c.in-Get.is) below (state_of c.args.unit.now) c.args.queue.now c.args.store.now c.get.new.store (c.get.ensures.reads response)
 
 pub returns-in-Drain-clause-made : goal.returns-in-Drain-clause-made
 returns-in-Drain-clause-made g c = λ step is.
-    let alive = c.requires.alive in
     made_drain c.args.config.now step c.drain-written.result.0 c.drain-written.result.1 (is ∙ c.in-Drain.is) (state_of c.args.unit.now) c.args.queue.now c.drain-written.new.queue c.args.store.now c.drain-written.new.store
-    c.drain-written.ensures.running c.drain-written.ensures.follows c.drain-written.ensures.drained
+    c.drain-written.ensures.running c.drain-written.ensures.calls c.drain-written.ensures.drained
 
-pub returns-in-Drain-clause-alive : goal.returns-in-Drain-clause-alive
-returns-in-Drain-clause-alive g c =
-    let alive = c.requires.alive in
-    record { held = alive.held; spare = alive.spare; running = c.drain-written.ensures.running alive.held alive.spare alive.running }
+pub returns-in-Drain-clause-up : goal.returns-in-Drain-clause-up
+returns-in-Drain-clause-up g c =
+    let up = c.requires.up in
+    let alive = up.alive in
+    record {
+      under_way = up.under_way;
+      blocks = c.drain-written.ensures.blocks ∙ up.blocks;
+      alive = record { held = alive.held; spare = alive.spare; running = c.drain-written.ensures.running alive.held alive.spare alive.running };
+    }

@@ -14,7 +14,7 @@ returns-in-Ok-clause-saves g c = λ response. record {
       let saved = (c.in-Ok.ensures.answers living.held living.spare living.running).saved in
       let taken = c.take_snapshot.ensures.taken start (calls_of journal) living.stands in
       record {
-        stands = c.apply_into.ensures.stands _ _ (c.take_snapshot.ensures.stands start (calls_of journal) living.stands);
+        stands = c.apply_into.ensures.applied.stands _ _ (c.take_snapshot.ensures.stands start (calls_of journal) living.stands);
         held = _;
         spare = _;
         running = saved.running;

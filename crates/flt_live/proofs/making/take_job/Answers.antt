@@ -29,5 +29,5 @@ returns-in_default-clause-taken g c = λ jobs stands.
     let took = subst (λ blocks. Stands blocks (ops.Take ∷ jobs) c.apply_into.new.self) c.requires.blocks (c.apply_into.ensures.stands jobs before) in
     (none_out _ (reply_with c.apply_into.result job) (c.apply_into.ensures.answer jobs before) (none_handed c.apply_into.result job c.in_default.not-Job), took, carries_take c.args.config.now jobs c.args.store.now)
 
-pub returns-in_default-clause-follows : goal.returns-in_default-clause-follows
-returns-in_default-clause-follows g c = no_call (driver_of c.args.store.now)
+pub returns-in_default-clause-calls : goal.returns-in_default-clause-calls
+returns-in_default-clause-calls g c = no_call (driver_of c.args.store.now)

@@ -7,4 +7,4 @@ pub returns-clause-no_response : goal.returns-clause-no_response
 returns-clause-no_response g c = λ other.
     let life = start_from (config_of c.args.unit.now) (state_of c.args.unit.now).base in
     let way = c.requires.under_way in
-    no_response life way.past c.args.op.now _ _ (c.apply_into.ensures.answer life way.past way.stands) other
+    no_response life way.past c.args.op.now _ _ (c.apply_into.ensures.applied.answer life way.past way.stands) other

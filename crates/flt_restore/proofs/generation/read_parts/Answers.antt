@@ -43,7 +43,7 @@ loop-id-preserved g c = record {
 pub returns-in_err-read_part-clause-unread : goal.returns-in_err-read_part-clause-unread
 returns-in_err-read_part-clause-unread g c =
     λ flash.
-    part_unread_from c.args.config.now c.args.commit.now (driver_of c.args.nvm.now) (driver_of c.loop-id.nvm) (driver_of c.read_part.new.nvm) c.loop-id.invariant.reads.follows
+    part_unread_from c.args.config.now c.args.commit.now (driver_of c.args.nvm.now) (driver_of c.loop-id.nvm) (driver_of c.read_part.new.nvm) c.loop-id.invariant.reads.calls
     (c.in_err-read_part.ensures.unread (was_flash c.from_residual.result _ c.from_residual.ensures.1 flash))
 
 pub returns-in_err-read_part-clause-reads : goal.returns-in_err-read_part-clause-reads

@@ -5,4 +5,4 @@ use Rattle.flt_restore.proofs.Rows.{commit_is_redundant}
 use Rattle.flt_restore.proofs.reading.read_source.Goals as goal
 
 pub read_copy-requires-clause-redundant : goal.read_copy-requires-clause-redundant
-read_copy-requires-clause-redundant g c = subst (λ (table : List BlockCfg). IsRedundant table 2) (sym c.requires.table) commit_is_redundant
+read_copy-requires-clause-redundant g c = subst (λ (table : List BlockCfg). IsRedundant table 2) (sym c.requires.readable.table) commit_is_redundant

@@ -1,4 +1,4 @@
-use Rattle.std.proofs.Common.{◌∷◌, sym, subst}
+use Rattle.std.proofs.Common.{◌∷◌, refl, rules, sym, subst}
 use Rattle.flt_model.specs.Start.{Start, History}
 use Rattle.flt_model.specs.declared.call.Op.TheVariants as ops
 use Rattle.flt_dem.proofs.IdleLemmas.{stands_idle}
@@ -20,14 +20,35 @@ stands_saved life past generation unit s = record {
   base = s.base;
 }
 
-pub returns-in-Request-clause-stands : goal.returns-in-Request-clause-stands
-returns-in-Request-clause-stands g c = λ life past s.
-    subst (λ call. Stands life (call ∷ past) c.request.new.self) (sym c.in-Request.is) (c.request.ensures.stands life past s)
+pub returns-in-Request-clause-applied : goal.returns-in-Request-clause-applied
+returns-in-Request-clause-applied g c = record {
+  config = c.request.ensures.config;
+  base = c.request.ensures.base;
+  stands = λ life past s. subst (λ call. Stands life (call ∷ past) c.request.new.self) (sym c.in-Request.is) (c.request.ensures.stands life past s);
+  answer = search rules;
+  reading = search rules;
+  ignored = search rules;
+  negative = search rules;
+}
 
-pub returns-in-Snapshot-clause-stands : goal.returns-in-Snapshot-clause-stands
-returns-in-Snapshot-clause-stands g c = λ life past s.
-    subst (λ call. Stands life (call ∷ past) c.args.self.now) (sym c.in-Snapshot.is) (stands_snapshot life past c.args.self.now s)
+pub returns-in-Snapshot-clause-applied : goal.returns-in-Snapshot-clause-applied
+returns-in-Snapshot-clause-applied g c = record {
+  config = refl;
+  base = refl;
+  stands = λ life past s. subst (λ call. Stands life (call ∷ past) c.args.self.now) (sym c.in-Snapshot.is) (stands_snapshot life past c.args.self.now s);
+  answer = search rules;
+  reading = λ reads. refl;
+  ignored = λ ignored. refl;
+  negative = search rules;
+}
 
-pub returns-in-Saved-clause-stands : goal.returns-in-Saved-clause-stands
-returns-in-Saved-clause-stands g c = λ life past s.
-    subst (λ call. Stands life (call ∷ past) c.args.self.now) (sym c.in-Saved.is) (stands_saved life past c.in-Saved.generation c.args.self.now s)
+pub returns-in-Saved-clause-applied : goal.returns-in-Saved-clause-applied
+returns-in-Saved-clause-applied g c = record {
+  config = refl;
+  base = refl;
+  stands = λ life past s. subst (λ call. Stands life (call ∷ past) c.args.self.now) (sym c.in-Saved.is) (stands_saved life past c.in-Saved.generation c.args.self.now s);
+  answer = search rules;
+  reading = λ reads. refl;
+  ignored = λ ignored. refl;
+  negative = search rules;
+}

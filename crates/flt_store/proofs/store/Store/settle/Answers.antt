@@ -46,15 +46,15 @@ returns-clause-at_once g c = λ settled. (let no = c.if-self.false in absurd (cc
 pub returns-in_err-commit-clause-at_once : goal.returns-in_err-commit-clause-at_once
 returns-in_err-commit-clause-at_once g c = λ settled. (let no = c.if-self.false in absurd (cc (settled, no)))
 
-pub read_blocks-self-requires-clause-table : goal.read_blocks-self-requires-clause-table
-read_blocks-self-requires-clause-table g c = c.restart.ensures.table ∙ c.args.self.now.table
+pub read_blocks-self-requires-clause-readable : goal.read_blocks-self-requires-clause-readable
+read_blocks-self-requires-clause-readable g c = record { table = c.restart.ensures.table ∙ c.args.self.now.table; mounted = search rules }
 
 pub returns-clause-finds : goal.returns-clause-finds
 returns-clause-finds g c = λ h s running.
     let before = driver_of c.args.self.now in
     let middle = driver_beneath c.restart.new.nvm in
     let after = driver_beneath c.read_blocks-self.new.nvm in
-    let later = c.read_blocks-self.ensures.reads.follows in
+    let later = c.read_blocks-self.ensures.reads.calls in
     let served = served_on c.args.config.now before after (more_calls before middle after c.restart.ensures.calls later) running.served in
     let kept = started_kept c.args.config.now middle.value after.value c.read_blocks-self.ensures.reads.values c.in_ok-commit.commit in
     let known = λ (h : Generation) (started : IsStarted c.args.config.now middle.value c.in_ok-commit.commit h).

@@ -28,13 +28,13 @@ use Rattle.flt_store.proofs.store.Store.start_mounted.Goals as goal
 
 pub begin_by-requires-clause-read : goal.begin_by-requires-clause-read
 begin_by-requires-clause-read g c = record {
-  due = subst (λ (content : Content). IsTrue c.in_ok-found.found.is_mark_due ↔ IsMarkDue (mark_of c.args.config.now) content) (sym (c.restore.ensures.values mark_number)) c.in_ok-found.ensures.mark;
-  found = found_in c.args.config.now (driver_of c.args.self.now) (driver_beneath c.restore.new.nvm) c.in_ok-found.found.commit c.restore.new.out c.restore.ensures.values c.in_ok-found.ensures.restored.restored;
+  due = subst (λ (content : Content). IsTrue c.in_ok-found.found.is_mark_due ↔ IsMarkDue (mark_of c.args.config.now) content) (sym (c.restore.ensures.reads.values mark_number)) c.in_ok-found.ensures.mark;
+  found = found_in c.args.config.now (driver_of c.args.self.now) (driver_beneath c.restore.new.nvm) c.in_ok-found.found.commit c.restore.new.out c.restore.ensures.reads.values c.in_ok-found.ensures.restored.restored;
   not_stale = c.restore.ensures.stays;
 }
 
 begins : (g : _) (c : After-begin_by g) → Begins c.args.config.now (driver_beneath c.restore.new.nvm).value c.in_ok-found.found.commit (generation c.in_ok-found.found.commit c.restore.new.out)
-begins g c = begins_of c.args.config.now c.begin_by.ensures.valid (driver_of c.args.self.now) (driver_beneath c.restore.new.nvm) c.in_ok-found.found.commit c.restore.new.out c.restore.ensures.values c.in_ok-found.ensures.restored.restored
+begins g c = begins_of c.args.config.now c.begin_by.ensures.valid (driver_of c.args.self.now) (driver_beneath c.restore.new.nvm) c.in_ok-found.found.commit c.restore.new.out c.restore.ensures.reads.values c.in_ok-found.ensures.restored.restored
 
 judged : (g : _) (c : After-begin_by g) → IsJudged c.args.config.now (driver_of c.args.self.now) (driver_beneath c.begin_by.new.nvm) (Ok (generation c.in_ok-found.found.commit c.restore.new.out))
 judged g c =
@@ -54,11 +54,11 @@ returns-clause-started g c =
     let is = number_of_started c.args.config.now third.value c.in_ok-commit.commit d started.names ∙ sym c.number_in-generation.ensures in
     let same = same_generation c.in_ok-found.found.commit c.restore.new.out number is in
     let now = subst (λ (h : Generation). IsStarted c.args.config.now third.value c.in_ok-commit.commit h) same started in
-    let follows = more_calls first second third c.restore.ensures.follows c.begin_by.ensures.driver.calls in
+    let follows = more_calls first second third c.restore.ensures.reads.calls c.begin_by.ensures.driver.calls in
     record {
       undamaged = g.met.B.Blocks.mounted_is_sound c.args.self.now.nvm.blocks c.requires.mounted.mounted;
       judged = subst (λ (h : Generation). IsJudged c.args.config.now first third (Ok h)) same (judged g (goal.at.returns-clause-started g c).After-begin_by);
-      usable = not_spent first second c.restore.ensures.follows c.in_ok-found.ensures.restored.usable;
+      usable = not_spent first second c.restore.ensures.reads.calls c.in_ok-found.ensures.restored.usable;
       running = record {
         served = served_on c.args.config.now first third follows (record { given = c.begin_by.ensures.valid; room = c.requires.mounted.room; mounted = c.requires.mounted.mounted });
         mark = now.mark;
@@ -74,11 +74,11 @@ returns-in_err-commit-clause-generations g c = λ h s sound.
     let at = goal.at.returns-in_err-commit-clause-generations g c in
     whenever c.from_residual-in_err-commit.result
     ((c.in_err-commit.ensures.begins _ (begins g at.After-begin_by)).generations h s
-    (sound_kept c.args.config.now (driver_of c.args.self.now).value (driver_beneath c.restore.new.nvm).value h s c.restore.ensures.values sound))
+    (sound_kept c.args.config.now (driver_of c.args.self.now).value (driver_beneath c.restore.new.nvm).value h s c.restore.ensures.reads.values sound))
 
 pub returns-in_err-found-clause-generations : goal.returns-in_err-found-clause-generations
 returns-in_err-found-clause-generations g c = λ h s sound. whenever c.from_residual.result
-    (both_old c.args.config.now (driver_beneath c.restore.new.nvm).value h s h (sound_kept c.args.config.now (driver_of c.args.self.now).value (driver_beneath c.restore.new.nvm).value h s c.restore.ensures.values sound))
+    (both_old c.args.config.now (driver_beneath c.restore.new.nvm).value h s h (sound_kept c.args.config.now (driver_of c.args.self.now).value (driver_beneath c.restore.new.nvm).value h s c.restore.ensures.reads.values sound))
 
 pub put_all-requires : goal.put_all-requires
 put_all-requires g c =
@@ -107,7 +107,7 @@ returns-in_err-commit-clause-causes g c =
     let made = c.from_residual-in_err-commit.ensures.1 in
     let fault = c.in_err-commit.field-0.0 in
     let begun = c.in_err-commit.ensures.begins _ (begins g at.After-begin_by) in
-    let writes = writes_on first second third (Err fault) c.restore.ensures.follows begun.writes in
+    let writes = writes_on first second third (Err fault) c.restore.ensures.reads.calls begun.writes in
     record {
       refused = handed_on _ answer _ made
           (refused_by_writing c.args.config.now c.args.self.now _ fault _ (record { undamaged = g.met.B.Blocks.mounted_is_sound c.args.self.now.nvm.blocks c.requires.mounted.mounted; is = judged g at.After-begin_by })
@@ -117,15 +117,15 @@ returns-in_err-commit-clause-causes g c =
       dark = λ flash.
           (let is : told_of fault ≡ Flash = sym (told_by _ answer Flash made flash) in
           let fault_is = was_flash_of_write c.args.config.now c.begin_by.ensures.valid first third fault writes c.args.self.now.numbers c.requires.mounted.room c.requires.mounted.mounted begun.borne is in
-          inr (unbegun_from first second third c.restore.ensures.follows c.restore.ensures.values c.args.config.now (begun.unbegun (ap Err fault_is))));
+          inr (unbegun_from first second third c.restore.ensures.reads.calls c.restore.ensures.reads.values c.args.config.now (begun.unbegun (ap Err fault_is))));
       unwritten = handed_on _ answer _ made (λ of_blocks. absurd (never_of_blocks fault of_blocks));
       early = λ told was.
           (let no = c.in_ok-found.ensures.restored.usable in
-          let same = c.restore.ensures.spent in
+          let same = c.restore.ensures.reads.spent in
           absurd (cc (was, no, same)));
       spent = λ told.
           (let is : told_of fault ≡ SequenceSpent = sym (told_by _ answer SequenceSpent made told) in
-          inr (begun_stuck_from c.args.config.now first second third c.restore.ensures.follows c.restore.ensures.values (c.in_err-commit.ensures.stuck (ap Err (was_stuck fault is)))));
+          inr (begun_stuck_from c.args.config.now first second third c.restore.ensures.reads.calls c.restore.ensures.reads.values (c.in_err-commit.ensures.stuck (ap Err (was_stuck fault is)))));
     }
 
 pub returns-in_err-found-clause-causes : goal.returns-in_err-found-clause-causes
@@ -134,32 +134,32 @@ returns-in_err-found-clause-causes g c =
     let made = c.from_residual.ensures.1 in
     record {
       refused = handed_on _ answer _ made
-          (refused_by_reading c.args.config.now c.args.self.now _ _ (g.met.B.Blocks.mounted_is_sound c.args.self.now.nvm.blocks c.requires.mounted.mounted) c.restore.ensures.values (c.restore.ensures.refused _ c.in_err-found.was));
+          (refused_by_reading c.args.config.now c.args.self.now _ _ (g.met.B.Blocks.mounted_is_sound c.args.self.now.nvm.blocks c.requires.mounted.mounted) c.restore.ensures.reads.values (c.restore.ensures.refused _ c.in_err-found.was));
       dark = λ flash. inl (c.in_err-found.ensures.unread (ap Err (sym (told_by _ answer Flash made flash))));
-      unwritten = handed_on _ answer _ made (λ judged. c.restore.ensures.image);
-      early = λ told was. c.restore.ensures.image;
+      unwritten = handed_on _ answer _ made (λ judged. c.restore.ensures.reads.image);
+      early = λ told was. c.restore.ensures.reads.image;
       spent = λ told.
           (let last = c.restore.ensures.refused SequenceSpent (c.in_err-found.was ∙ ap Err (sym (told_by _ answer SequenceSpent made told))) in
-          inl (sym c.restore.ensures.spent ∙ last.1));
+          inl (sym c.restore.ensures.reads.spent ∙ last.1));
     }
 
 pub returns-clause-driver : goal.returns-clause-driver
 returns-clause-driver g c = record {
-  applications = λ block below. c.begin_by.ensures.driver.applications block below ∙ c.restore.ensures.values (application_number block);
+  applications = λ block below. c.begin_by.ensures.driver.applications block below ∙ c.restore.ensures.reads.values (application_number block);
   not_stale = c.in_ok-commit.ensures.driver.not_stale;
-  calls = more_calls _ _ _ c.restore.ensures.follows c.begin_by.ensures.driver.calls;
+  calls = more_calls _ _ _ c.restore.ensures.reads.calls c.begin_by.ensures.driver.calls;
 }
 
 pub returns-in_err-commit-clause-driver : goal.returns-in_err-commit-clause-driver
 returns-in_err-commit-clause-driver g c = record {
-  applications = λ block below. c.begin_by.ensures.driver.applications block below ∙ c.restore.ensures.values (application_number block);
+  applications = λ block below. c.begin_by.ensures.driver.applications block below ∙ c.restore.ensures.reads.values (application_number block);
   not_stale = failed_ok _ _ c.from_residual-in_err-commit.result c.from_residual-in_err-commit.ensures.1;
-  calls = more_calls _ _ _ c.restore.ensures.follows c.begin_by.ensures.driver.calls;
+  calls = more_calls _ _ _ c.restore.ensures.reads.calls c.begin_by.ensures.driver.calls;
 }
 
 pub returns-in_err-found-clause-driver : goal.returns-in_err-found-clause-driver
 returns-in_err-found-clause-driver g c = record {
-  applications = λ block below. c.restore.ensures.values (application_number block);
+  applications = λ block below. c.restore.ensures.reads.values (application_number block);
   not_stale = failed_ok _ _ c.from_residual.result c.from_residual.ensures.1;
-  calls = c.restore.ensures.follows;
+  calls = c.restore.ensures.reads.calls;
 }
