@@ -2,6 +2,7 @@
 use Rattle.std.specs.Prelude.{[], ◌∷◌, length}
 use Rattle.flt_flash.specs.State.{FlashState}
 use Rattle.flt_flash.specs.Boots.{one_sector, boots_of, left_of}
+use Rattle.flt_flash.specs.PageArrays.{all_pages}
 use Rattle.flt_flash.specs.Made.{arms_told}
 use Rattle.flt_flash.specs.Power.{PowerState, power_state}
 use Rattle.flt_ea.specs.declared.memory.EepromMem.{EepromMem}
@@ -9,8 +10,8 @@ use Rattle.flt_ea.specs.declared.memory.EepromMem.{EepromMem}
 -- The device as every user of an EEPROM sees it.
 abbrev pub state_of : EepromMem → FlashState
 state_of device = record {
-  pages = length device.image.items;
-  image = device.image.items ∷ [];
+  pages = length (all_pages device.units);
+  image = all_pages device.units ∷ [];
   is_off = device.power.is_off;
   faults = device.power.faults;
   operations = device.power.operations;

@@ -2,7 +2,8 @@
 ghost use Rattle.std.specs.Prelude.{◌≡◌, false, ◌<◌, ◌≤◌, [], ◌∷◌, ◌++◌, length, replicate, IfSome, is_err, is_some, OnOk, OnErr, IfOk};
 ghost use Rattle.flt_flash.specs.State.{Operates, CanArm, Arms, PowersUp};
 ghost use Rattle.flt_flash.specs.Tearing.{IsTorn};
-ghost use Rattle.flt_flash.specs.Image.{sector_at, blank_page, ArePages};
+ghost use Rattle.flt_flash.specs.Image.{sector_at, blank_page};
+ghost use Rattle.flt_flash.specs.PageArrays.{all_pages};
 ghost use Rattle.flt_flash.specs.Arms.{IsProgrammedBy, told_with};
 ghost use Rattle.flt_flash.specs.Power.{first_power};
 ghost use Rattle.flt_ea.specs.State.{unit_at, written, in_units, first_units};
@@ -10,20 +11,23 @@ ghost use Rattle.flt_ea.specs.State.{unit_at, written, in_units, first_units};
 use crate::Eeprom;
 use arrayvec::ArrayVec;
 use flt_flash::{
-    Arm, ArmMade, ArmsTold, Boots, FlashFailed, Power, blank_pages, outcome, pages_of, write_page,
+    Arm, ArmMade, ArmsTold, Boots, FlashFailed, PageArray, Power, outcome,
 };
 use std::alloc::{AllocError, Global};
 
-/// An EEPROM in memory that tells everything, its arms while at most 64 were made. It takes its memory when it is made.
+/// An EEPROM in memory that tells everything, its arms while at most 64 were made. It reserves its memory when it is made, and touches that of
+/// a unit when it or one behind it is written. `rest` is the second sector that the bench saves, of no unit.
 #[derive(Drop)]
 pub struct EepromMem {
-    image: Vec<[u8; 32]>,
+    units: PageArray,
+    rest: PageArray,
     power: Power,
     arms: ArmsTold,
     boots: Boots,
-    ghost most: { length image.items < 65536 },
-    ghost image_bytes: { ArePages image.items },
-    ghost boots_size: { length boots.last.items ≡ length image.items },
+    ghost most: { units.count < 65536 },
+    ghost one: { rest.count ≡ 0 },
+    ghost boots_units: { boots.first.count ≡ units.count },
+    ghost boots_rest: { boots.second.count ≡ 0 },
 }
 
 impl EepromMem {
@@ -34,7 +38,7 @@ impl EepromMem {
         ensures state { IfOk result (λ device. state_of device ≡ first_units (replicate units blank_page) boots) }
         ensures power { IfOk result (λ device. power_of device ≡ first_power) }
     {
-        Self::made(alloc, blank_pages(alloc, units as usize)?, boots)
+        Self::made(alloc, PageArray::blank(alloc, units as usize)?, boots)
     }
 
     /// A device with these units, whose power may come back `boots` times. The error means that memory ran out.
@@ -43,18 +47,19 @@ impl EepromMem {
         ensures state { IfOk result (λ device. state_of device ≡ first_units image.items boots) }
         ensures power { IfOk result (λ device. power_of device ≡ first_power) }
     {
-        Self::made(alloc, pages_of(alloc, &image)?, boots)
+        Self::made(alloc, PageArray::of(alloc, &image)?, boots)
     }
 
-    fn made(alloc: Global, image: Vec<[u8; 32]>, boots: u16) -> Result<EepromMem, AllocError>
-        requires most { length image.items ≤ 65535 }
-        requires bytes { ArePages image.items }
-        ensures state { IfOk result (λ device. state_of device ≡ first_units image.items boots) }
+    fn made(alloc: Global, units: PageArray, boots: u16) -> Result<EepromMem, AllocError>
+        requires { units.count ≤ 65535 }
+        ensures state { IfOk result (λ device. state_of device ≡ first_units (all_pages units) boots) }
         ensures power { IfOk result (λ device. power_of device ≡ first_power) }
     {
-        let boots = Boots::reserved(alloc, image.len(), boots)?;
+        let boots = Boots::reserved(alloc, units.count, 0, boots)?;
+        let rest = PageArray::blank(alloc, 0)?;
         Ok(EepromMem {
-            image,
+            units,
+            rest,
             power: Power {
                 is_off: false,
                 faults: 0,
@@ -71,7 +76,7 @@ impl EepromMem {
         requires { unit < (state_of self.now).pages }
         ensures { result.now ≡ unit_at (state_of self.now).image unit }
     {
-        &self.image[unit as usize]
+        self.units.page(unit as usize)
     }
 }
 
@@ -85,7 +90,7 @@ impl Eeprom for EepromMem {
     ghost shape = { shape_of };
 
     fn units(&self) -> u16 {
-        self.image.len() as u16
+        self.units.count as u16
     }
 
     fn read_unit(&mut self, unit: u16, out: &mut [u8; 32]) -> Result<(), FlashFailed>
@@ -118,7 +123,7 @@ impl Eeprom for EepromMem {
             IsProgrammedBy pattern (sector_at (state_of self.old).image 0) unit bytes.now (sector_at (state_of self.new).image 0)) }
     {
         let failing = self.power.count_write();
-        write_page(&mut self.image, unit as usize, bytes, failing);
+        self.units.write(unit as usize, bytes, failing);
         outcome(failing)
     }
 
@@ -159,7 +164,7 @@ impl Eeprom for EepromMem {
         // The arms that stood stand.
         ensures power { power_of self.new ≡ record (power_of self.old) { is_off = false } }
     {
-        self.boots.save(self.power.faults, &self.image, &[]);
+        self.boots.save(self.power.faults, &self.units, &self.rest);
         self.power.is_off = false;
     }
 }

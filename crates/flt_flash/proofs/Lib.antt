@@ -9,4 +9,6 @@ pub mod Recounted
 pub mod TornTails
 pub mod Answering
 pub mod Changes
+pub mod PageArrays
+pub mod TornImages
 pub mod Saved

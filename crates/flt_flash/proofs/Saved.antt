@@ -6,6 +6,7 @@ use Rattle.std.proofs.Math.Seq.{take-length}
 use Rattle.flt_flash.specs.State.{PowerUp}
 use Rattle.flt_flash.specs.Changes.{blank_image, changed_by, AreReached}
 use Rattle.flt_flash.specs.Image.{page_at}
+use Rattle.flt_flash.specs.PageArrays.{all_pages}
 use Rattle.flt_flash.specs.Boots.{two_sectors, pages_then, boot_of, boots_of, AddsOne, boot_at, no_boot}
 use Rattle.flt_flash.specs.declared.boot.BootMark.{BootMark}
 use Rattle.flt_flash.specs.declared.boot.PageChange.{PageChange}
@@ -27,14 +28,17 @@ module _ (before after : Boots) (faults count : ℕ) (added : List PageChange)
     (marks : after.marks.items ≡ before.marks.items ++ record { faults = faults; changes = count } ∷ [])
     (counts : count ≡ length after.changes.items)
     (changes : after.changes.items ≡ before.changes.items ++ added)
-    (size : length after.last.items ≡ length before.last.items) where
+    (first : after.first.count ≡ before.first.count) (second : after.second.count ≡ before.second.count) where
+  size : after.first.count + after.second.count ≡ before.first.count + before.second.count
+  size = omega (arith, first, second)
+
   pages_stay : (mark : BootMark) → mark.changes ≤ length before.changes.items → pages_then after mark.changes ≡ pages_then before mark.changes
   pages_stay mark within =
-      ap (λ n. changed_by (blank_image n) (take mark.changes after.changes.items)) size
-      ∙ ap (changed_by (blank_image (length before.last.items))) (ap (take mark.changes) changes ∙ take-append-le mark.changes before.changes.items added within)
+      ap (λ (n : ℕ). changed_by (blank_image n) (take mark.changes after.changes.items)) size
+      ∙ ap (changed_by (blank_image (before.first.count + before.second.count))) (ap (take mark.changes) changes ∙ take-append-le mark.changes before.changes.items added within)
 
-  last_pages : pages_then after count ≡ after.last.items
-  last_pages = ap (changed_by (blank_image (length after.last.items))) (ap (λ n. take n after.changes.items) counts ∙ take-length after.changes.items) ∙ sym after.last_is
+  last_pages : pages_then after count ≡ all_pages after.first ++ all_pages after.second
+  last_pages = ap (changed_by (blank_image (after.first.count + after.second.count))) (ap (λ n. take n after.changes.items) counts ∙ take-length after.changes.items) ∙ sym after.last_is
 
   boot_stays : (divided : List (List ℕ) → List (List (List ℕ))) (mark : BootMark) → mark.changes ≤ length before.changes.items → boot_of divided after mark ≡ boot_of divided before mark
   boot_stays divided mark within = ap {B = PowerUp} (λ pages. record { faults = mark.faults; image = divided pages }) (pages_stay mark within)
@@ -43,7 +47,7 @@ module _ (before after : Boots) (faults count : ℕ) (added : List PageChange)
   boots_stay divided = map_same (boot_of divided after) (boot_of divided before) before.marks.items
       (All-weaker (λ (mark : BootMark). mark.changes ≤ length before.changes.items) (λ (mark : BootMark). boot_of divided after mark ≡ boot_of divided before mark) (boot_stays divided) before.marks.items before.reached)
 
-  pub adds_one : (pages : List (List ℕ)) → after.last.items ≡ pages → after.most ≡ before.most → AddsOne faults pages before after
+  pub adds_one : (pages : List (List ℕ)) → all_pages after.first ++ all_pages after.second ≡ pages → after.most ≡ before.most → AddsOne faults pages before after
   adds_one pages is most = record {
     boots = λ divided.
         ap (map (boot_of divided after)) marks
@@ -51,7 +55,8 @@ module _ (before after : Boots) (faults count : ℕ) (added : List PageChange)
         ∙ ap (λ earlier. earlier ++ boot_of divided after (record { faults = faults; changes = count }) ∷ []) (boots_stay divided)
         ∙ ap (λ (image : List (List ℕ)). boots_of divided before ++ record { faults = faults; image = divided image } ∷ []) (last_pages ∙ is);
     left = omega (arith, most, ap length marks ∙ length_push before.marks.items (record { faults = faults; changes = count }));
-    size = size;
+    first = first;
+    second = second;
   }
 
 -- No power-up.

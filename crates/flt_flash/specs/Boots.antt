@@ -1,5 +1,5 @@
 -- What the saved boots of a device in memory are.
-use Rattle.std.specs.Prelude.{◌≡◌, ◌-◌, ℕ, List, [], ◌∷◌, ◌++◌, map, take, drop, length, slice_index_or}
+use Rattle.std.specs.Prelude.{◌≡◌, ◌+◌, ◌-◌, ℕ, List, [], ◌∷◌, ◌++◌, map, take, drop, length, slice_index_or}
 use Rattle.flt_flash.specs.State.{PowerUp}
 use Rattle.flt_flash.specs.Changes.{blank_image, changed_by}
 use Rattle.flt_flash.specs.declared.boot.BootMark.{BootMark}
@@ -15,7 +15,7 @@ two_sectors many pages = take many pages ∷ drop many pages ∷ []
 
 -- The image that a power-up found: a blank one after the first of so many changes.
 abbrev pub pages_then : Boots → ℕ → List (List ℕ)
-pages_then boots changes = changed_by (blank_image (length boots.last.items)) (take changes boots.changes.items)
+pages_then boots changes = changed_by (blank_image (boots.first.count + boots.second.count)) (take changes boots.changes.items)
 
 -- A power-up of a device whose pages are divided so into sectors.
 abbrev pub boot_of : (List (List ℕ) → List (List (List ℕ))) → Boots → BootMark → PowerUp
@@ -34,7 +34,8 @@ pub record AddsOne (faults : ℕ) (pages : List (List ℕ)) (before after : Boot
   pub boots : (divided : List (List ℕ) → List (List (List ℕ)))
       → boots_of divided after ≡ boots_of divided before ++ record { faults = faults; image = divided pages } ∷ []
   pub left : left_of after ≡ left_of before - 1
-  pub size : length after.last.items ≡ length before.last.items
+  pub first : after.first.count ≡ before.first.count
+  pub second : after.second.count ≡ before.second.count
 
 -- No boot: no fault, and an image of no sectors.
 abbrev pub no_boot : PowerUp

@@ -2,6 +2,7 @@ pub mod Image
 pub mod Tearing
 pub mod State
 pub mod Arms
+pub mod PageArrays
 pub mod Changes
 pub mod Boots
 pub mod Power

@@ -3,6 +3,7 @@ use Rattle.std.specs.Prelude.{[], ◌∷◌, length}
 use Rattle.flt_flash.specs.declared.memory.FlashMem.{FlashMem}
 use Rattle.flt_flash.specs.State.{FlashState}
 use Rattle.flt_flash.specs.Boots.{two_sectors, boots_of, left_of}
+use Rattle.flt_flash.specs.PageArrays.{all_pages}
 use Rattle.flt_flash.specs.Made.{arms_told}
 use Rattle.flt_flash.specs.Power.{PowerState, power_state}
 
@@ -10,7 +11,7 @@ use Rattle.flt_flash.specs.Power.{PowerState, power_state}
 abbrev pub state_of : FlashMem → FlashState
 state_of flash = record {
   pages = flash.pages;
-  image = flash.first.items ∷ flash.second.items ∷ [];
+  image = all_pages flash.first ∷ all_pages flash.second ∷ [];
   is_off = flash.power.is_off;
   faults = flash.power.faults;
   operations = flash.power.operations;

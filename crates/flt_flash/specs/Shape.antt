@@ -1,8 +1,9 @@
 -- The image of a flash in memory is two sectors of its pages.
-use Rattle.std.proofs.Common.{ℕ, zero, suc, ◌<◌, ◌≤◌, ◌≡◌, ◌-◌, ◌^◌, get_or, length, refl, arith}
+use Rattle.std.proofs.Common.{ℕ, zero, suc, ◌<◌, ◌≤◌, ◌≡◌, ◌-◌, ◌^◌, get_or, length, refl, ◌∙◌, arith}
 use Rattle.flt_flash.specs.Image.{sector_at, ArePages}
 use Rattle.flt_flash.specs.State.{HasShape}
 use Rattle.flt_flash.specs.Memory.{state_of}
+use Rattle.flt_flash.specs.PageArrays.{page_count, page_sizes}
 use Rattle.flt_flash.specs.declared.memory.FlashMem.{FlashMem}
 
 -- The shape of the image is kept by the fields of the flash.
@@ -18,13 +19,13 @@ shape_of flash = record {
 }
   where
     sizes : (sector : ℕ) → sector < 2 → length (sector_at (state_of flash).image sector) ≡ flash.pages
-    sizes zero lt = flash.first_size
-    sizes (suc zero) lt = flash.second_size
+    sizes zero lt = page_count flash.first ∙ flash.first_size
+    sizes (suc zero) lt = page_count flash.second ∙ flash.second_size
     sizes (suc (suc sector)) lt = absurd (omega arith)
 
     bytes : (sector : ℕ) → sector < 2 → ArePages (sector_at (state_of flash).image sector)
-    bytes zero lt = flash.first_bytes
-    bytes (suc zero) lt = flash.second_bytes
+    bytes zero lt = page_sizes flash.first
+    bytes (suc zero) lt = page_sizes flash.second
     bytes (suc (suc sector)) lt = absurd (omega arith)
 
     erases : (sector : ℕ) → sector < 2 → get_or (state_of flash).wear sector 0 ≤ 2 ^ 64 - 1

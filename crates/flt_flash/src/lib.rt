@@ -8,6 +8,7 @@
 #![tactic(auto)]
 
 mod arm;
+mod array;
 mod blocks;
 mod boot;
 mod flash;
@@ -20,12 +21,13 @@ mod tally;
 pub mod worked;
 
 pub use arm::{Arm, ArmMade, Pattern};
+pub use array::PageArray;
 pub use blocks::{BlockFault, Blocks, Found, Refused, calls_follow};
 pub use boot::{BootMark, Boots, PageChange};
 pub use flash::{Bench, Flash, FlashFailed};
 pub use laws::{counts_rise, erases_stand};
 pub use made::ArmsTold;
 pub use memory::FlashMem;
-pub use pages::{BLANK_PAGE, blank_pages, outcome, pages_of, write_page};
+pub use pages::{BLANK_PAGE, outcome};
 pub use power::Power;
 pub use tally::Tally;

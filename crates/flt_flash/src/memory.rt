@@ -1,26 +1,27 @@
 //! A flash in memory, and the bench that cuts its power and makes its operations fail.
 ghost use Rattle.std.specs.Prelude.{◌≡◌, false, ℕ, ◌^◌, ◌+◌, ◌-◌, ◌*◌, ◌/◌, ◌%◌, ◌<◌, ◌≤◌, take, drop, [], ◌∷◌, ◌++◌, length, replicate, Some, IfNone, IfSome, OnSome, is_err, is_some, OnOk, OnErr, IfOk, slice_index, slice_set};
-ghost use Rattle.flt_flash.specs.declared.arm.Pattern.TheVariants.{Nothing};
 ghost use Rattle.flt_flash.specs.State.{first_state, Operates, counted, CanArm, Arms, PowersUp};
-ghost use Rattle.flt_flash.specs.Tearing.{IsTornSector, IsTorn};
-ghost use Rattle.flt_flash.specs.Image.{page_at, sector_at, programmed, erased, blank_page, ArePages};
+ghost use Rattle.flt_flash.specs.Tearing.{IsTorn};
+ghost use Rattle.flt_flash.specs.Image.{page_at, sector_at, programmed, erased, blank_page};
 ghost use Rattle.flt_flash.specs.Arms.{IsProgrammedBy, IsErasedBy, told_with};
 ghost use Rattle.flt_flash.specs.Power.{first_power};
+ghost use Rattle.flt_flash.specs.PageArrays.{all_pages};
 
 use crate::boot::Boots;
 use crate::made::ArmsTold;
-use crate::pages::{blank_pages, clear_sector, outcome, pages_of, tear_sector, write_page};
+use crate::pages::outcome;
 use crate::power::Power;
-use crate::{Arm, ArmMade, Bench, Flash, FlashFailed, Pattern};
+use crate::{Arm, ArmMade, Bench, Flash, FlashFailed, PageArray};
 use arrayvec::ArrayVec;
 use std::alloc::{AllocError, Global};
 
-/// A flash in memory that tells everything, its arms while at most 64 were made. It takes its memory when it is made.
+/// A flash in memory that tells everything, its arms while at most 64 were made. It reserves its memory when it is made, and touches that of a
+/// page when it or one behind it is written.
 #[derive(Drop)]
 pub struct FlashMem {
     pages: u16,
-    first: Vec<[u8; 32]>,
-    second: Vec<[u8; 32]>,
+    first: PageArray,
+    second: PageArray,
     power: Power,
     first_wear: u64,
     second_wear: u64,
@@ -30,11 +31,10 @@ pub struct FlashMem {
     ghost most_operations: { power.operations < 2 ^ 64 },
     ghost most_first_wear: { first_wear < 2 ^ 64 },
     ghost most_second_wear: { second_wear < 2 ^ 64 },
-    ghost first_size: { length first.items ≡ pages },
-    ghost second_size: { length second.items ≡ pages },
-    ghost first_bytes: { ArePages first.items },
-    ghost second_bytes: { ArePages second.items },
-    ghost boots_size: { length boots.last.items ≡ 2 * pages },
+    ghost first_size: { first.count ≡ pages },
+    ghost second_size: { second.count ≡ pages },
+    ghost boots_first: { boots.first.count ≡ pages },
+    ghost boots_second: { boots.second.count ≡ pages },
 }
 
 impl FlashMem {
@@ -48,8 +48,8 @@ impl FlashMem {
         ensures state { IfOk result (λ flash. state_of flash ≡ first_state pages (replicate pages blank_page) (replicate pages blank_page) boots) }
         ensures power { IfOk result (λ flash. power_of flash ≡ first_power) }
     {
-        let first = blank_pages(alloc, pages as usize)?;
-        let second = blank_pages(alloc, pages as usize)?;
+        let first = PageArray::blank(alloc, pages as usize)?;
+        let second = PageArray::blank(alloc, pages as usize)?;
         Self::made(alloc, pages, first, second, boots)
     }
 
@@ -64,26 +64,24 @@ impl FlashMem {
         ensures power { IfOk result (λ flash. power_of flash ≡ first_power) }
     {
         let pages = image.len() / 2;
-        let first = pages_of(alloc, &image[..pages])?;
-        let second = pages_of(alloc, &image[pages..])?;
+        let first = PageArray::of(alloc, &image[..pages])?;
+        let second = PageArray::of(alloc, &image[pages..])?;
         Self::made(alloc, pages as u16, first, second, boots)
     }
 
     fn made(
         alloc: Global,
         pages: u16,
-        first: Vec<[u8; 32]>,
-        second: Vec<[u8; 32]>,
+        first: PageArray,
+        second: PageArray,
         boots: u16,
     ) -> Result<FlashMem, AllocError>
-        requires first { length first.items ≡ pages }
-        requires second { length second.items ≡ pages }
-        requires first_bytes { ArePages first.items }
-        requires second_bytes { ArePages second.items }
-        ensures state { IfOk result (λ flash. state_of flash ≡ first_state pages first.items second.items boots) }
+        requires first { first.count ≡ pages }
+        requires second { second.count ≡ pages }
+        ensures state { IfOk result (λ flash. state_of flash ≡ first_state pages (all_pages first) (all_pages second) boots) }
         ensures power { IfOk result (λ flash. power_of flash ≡ first_power) }
     {
-        let boots = Boots::reserved(alloc, 2 * pages as usize, boots)?;
+        let boots = Boots::reserved(alloc, pages as usize, pages as usize, boots)?;
         Ok(FlashMem {
             pages,
             first,
@@ -108,9 +106,9 @@ impl FlashMem {
         ensures { result.now ≡ page_at (state_of self.now).image sector page }
     {
         if sector == 0 {
-            &self.first[page as usize]
+            self.first.page(page as usize)
         } else {
-            &self.second[page as usize]
+            self.second.page(page as usize)
         }
     }
 
@@ -177,9 +175,9 @@ impl Flash for FlashMem {
     {
         let failing = self.power.count_write();
         if sector == 0 {
-            write_page(&mut self.first, page as usize, bytes, failing);
+            self.first.write(page as usize, bytes, failing);
         } else {
-            write_page(&mut self.second, page as usize, bytes, failing);
+            self.second.write(page as usize, bytes, failing);
         }
         outcome(failing)
     }
@@ -200,10 +198,10 @@ impl Flash for FlashMem {
         let failing = self.power.count_write();
         if sector == 0 {
             self.first_wear = self.first_wear.saturating_add(1);
-            clear_pages(&mut self.first, failing);
+            self.first.erase(failing);
         } else {
             self.second_wear = self.second_wear.saturating_add(1);
-            clear_pages(&mut self.second, failing);
+            self.second.erase(failing);
         }
         outcome(failing)
     }
@@ -260,19 +258,5 @@ impl Bench for FlashMem {
         self.boots
             .save(self.power.faults, &self.first, &self.second);
         self.power.is_off = false;
-    }
-}
-
-/// Erases a sector, or tears it.
-fn clear_pages(pages: &mut Vec<[u8; 32]>, failing: Option<Pattern>)
-    ensures whole { IfNone failing (pages.new.items ≡ replicate (length pages.old.items) blank_page) }
-    ensures torn { OnSome failing (IsTornSector pages.old.items (replicate (length pages.old.items) blank_page) pages.new.items) }
-    ensures bytes { ArePages pages.old.items → ArePages pages.new.items }
-    ensures by_pattern { IfSome failing (λ pattern. IsErasedBy pattern pages.old.items pages.new.items) }
-    ensures untouched { failing ≡ Some Nothing → pages.new.items ≡ pages.old.items }
-{
-    match failing {
-        None => clear_sector(pages),
-        Some(pattern) => tear_sector(pages, pattern),
     }
 }

@@ -1,5 +1,5 @@
 //! The pages of a device in memory: made, written and torn.
-ghost use Rattle.std.specs.Prelude.{◌≡◌, ◌<◌, length, replicate, Some, IfNone, IfSome, OnSome, IfOk, is_err, is_some, slice_set};
+ghost use Rattle.std.specs.Prelude.{◌≡◌, ◌<◌, length, replicate, vec_capacity, Some, IfNone, IfSome, OnSome, IfOk, is_err, is_some, slice_set};
 ghost use Rattle.flt_flash.specs.declared.arm.Pattern.TheVariants.{Nothing};
 ghost use Rattle.flt_flash.specs.Tearing.{IsTornSector};
 ghost use Rattle.flt_flash.specs.Image.{blank_page, ArePages};
@@ -11,20 +11,8 @@ use std::alloc::{AllocError, Global};
 /// An erased page: all its bits are 1.
 pub const BLANK_PAGE: [u8; 32] = [255; 32];
 
-/// So many blank pages. The error means that memory ran out.
-pub fn blank_pages(alloc: Global, pages: usize) -> Result<Vec<[u8; 32]>, AllocError>
-    ensures items { IfOk result (λ made. made.items ≡ replicate pages blank_page) }
-    ensures bytes { IfOk result (λ made. ArePages made.items) }
-{
-    let mut made = Vec::with_capacity(alloc, pages)?;
-    for _page in 0..pages {
-        made.push(BLANK_PAGE)?;
-    }
-    Ok(made)
-}
-
 /// A copy of these pages. The error means that memory ran out.
-pub fn pages_of(alloc: Global, pages: &[[u8; 32]]) -> Result<Vec<[u8; 32]>, AllocError>
+pub(crate) fn pages_of(alloc: Global, pages: &[[u8; 32]]) -> Result<Vec<[u8; 32]>, AllocError>
     ensures items { IfOk result (λ made. made.items ≡ pages.now) }
     ensures bytes { IfOk result (λ made. ArePages made.items) }
 {
@@ -73,17 +61,8 @@ pub(crate) fn tear_sector(pages: &mut [[u8; 32]], pattern: Pattern)
     }
 }
 
-/// Erases a sector.
-pub(crate) fn clear_sector(pages: &mut [[u8; 32]])
-    ensures { pages.new ≡ replicate (length pages.old) blank_page }
-{
-    for page in 0..pages.len() {
-        pages[page] = BLANK_PAGE;
-    }
-}
-
 /// Writes a page, or tears it by the pattern.
-pub fn write_page(
+pub(crate) fn write_page(
     pages: &mut Vec<[u8; 32]>,
     page: usize,
     bytes: &[u8; 32],
@@ -94,6 +73,9 @@ pub fn write_page(
     ensures torn { OnSome failing (IsTornSector pages.old.items (slice_set pages.old.items page bytes.now) pages.new.items) }
     ensures by_pattern { IfSome failing (λ pattern. IsProgrammedBy pattern pages.old.items page bytes.now pages.new.items) }
     ensures untouched { failing ≡ Some Nothing → pages.new.items ≡ pages.old.items }
+    ensures size { length pages.new.items ≡ length pages.old.items }
+    ensures room { vec_capacity pages.new ≡ vec_capacity pages.old }
+    ensures bytes { ArePages pages.old.items → ArePages pages.new.items }
 {
     match failing {
         None => pages[page] = *bytes,

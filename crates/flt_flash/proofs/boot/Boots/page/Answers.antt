@@ -1,4 +1,4 @@
-use Rattle.std.proofs.Common.{ℕ, List, Bor, ◌≤◌, ◌<◌, [], length, sym, ◌∙◌, ap, arith}
+use Rattle.std.proofs.Common.{ℕ, List, Bor, ◌+◌, ◌≤◌, ◌<◌, [], length, sym, ◌∙◌, ap, arith}
 use Rattle.std.proofs.lemmas.List.{get_or-replicate, length-replicate}
 use Rattle.flt_flash.specs.Image.{blank_page}
 use Rattle.flt_flash.specs.Changes.{blank_image}
@@ -9,13 +9,13 @@ use Rattle.flt_flash.proofs.boot.Boots.page.Goals.{then-change-page, else-change
 
 pub loop-index-init : goal.loop-index-init
 unfolding blank_page
-loop-index-init c = sym (get_or-replicate (length c.args.self.now.last.items) c.args.page blank_page [] c.requires.page)
+loop-index-init c = sym (get_or-replicate (c.args.self.now.first.count + c.args.self.now.second.count) c.args.page blank_page [] c.requires.page)
 
 pub loop-index-preserved : goal.loop-index-preserved
 loop-index-preserved c =
-    let blank = blank_image (length c.args.self.now.last.items) in
+    let blank = blank_image (c.args.self.now.first.count + c.args.self.now.second.count) in
     let changes = c.args.self.now.changes.items in
-    let inside : c.args.page < length blank = omega (arith, c.requires.page, length-replicate (length c.args.self.now.last.items) blank_page) in
+    let inside : c.args.page < length blank = omega (arith, c.requires.page, length-replicate (c.args.self.now.first.count + c.args.self.now.second.count) blank_page) in
     let reached : c.index.result.now.changes ≤ length changes =
     omega (arith, c.args.self.now.reached c.args.boot c.index.result.now c.requires.boot, ap (λ (mark : BootMark). mark.changes) c.index.ensures) in
     let at : c.loop-index.index < length changes = omega (arith, reached, c.loop-index-test.true) in
