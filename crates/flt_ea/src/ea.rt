@@ -72,7 +72,8 @@ impl<E: Eeprom> Ea<E> {
     ghost use Rattle.flt_ea.specs.Ea.{state_of, uncounted_of};
 
     /// A driver over this device for these block numbers. It is stale, and has not mounted. It takes the memory of a place and of
-    /// a row of the index for each number, and no other call takes any. The error means that memory ran out, and hands the device back.
+    /// a row of the index for each number, and no other call takes any. At `Err` there was not enough memory: the device comes back as it was, and
+    /// the driver can be made when memory is free.
     pub fn make(alloc: Global, device: E, numbers: Vec<u16>) -> Result<Ea<E>, Refused<E>>
         requires units { 10 * length numbers.items ≤ (E.state device).pages }
         requires distinct { AllPairs (λ a b. a ≢ b) numbers.items }

@@ -18,14 +18,14 @@ pub trait Eeprom {
     fn units(&self) -> u16
         ensures { result ≡ (state self.now).pages };
 
-    /// Reads a unit. A read that fails changes nothing of the device, and says nothing of `out`.
+    /// Reads a unit. A read that fails changes nothing of the device, and says nothing of `out`. At `Err` read the unit again.
     fn read_unit(&mut self, unit: u16, out: &mut [u8; 32]) -> Result<(), FlashFailed>
         requires { unit < (state self.old).pages }
         ensures read { OnOk result (out.new ≡ unit_at (state self.old).image unit) }
         ensures image { (state self.new).image ≡ (state self.old).image }
         ensures operation { Operates (state self.old) (state self.new) result };
 
-    /// Writes a unit, whatever stood in it. After a failure each of its bits is as before or as asked.
+    /// Writes a unit, whatever it held. At `Err` each of its bits is as before or as asked: write it again.
     fn write_unit(&mut self, unit: u16, bytes: &[u8; 32]) -> Result<(), FlashFailed>
         requires { unit < (state self.old).pages }
         ensures written { OnOk result ((state self.new).image ≡ written (state self.old).image unit bytes.now) }

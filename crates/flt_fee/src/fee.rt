@@ -268,8 +268,8 @@ impl<F: Flash> Fee<F> {
     }
 
     /// A driver over this flash of `used` pages in each sector, for these block numbers. It is stale, and has not mounted.
-    /// It takes the memory of a place and of a row of the index for each number, and no other call takes any. The error means that memory ran out, and hands
-    /// the flash back.
+    /// It takes the memory of a place and of a row of the index for each number, and no other call takes any. At `Err` there was
+    /// not enough memory: the flash comes back as it was, and the driver can be made when memory is free.
     pub fn make(alloc: Global, flash: F, used: u16, numbers: Vec<u16>) -> Result<Fee<F>, Refused<F>>
         requires least { 4 ≤ used }
         requires most { used ≤ (F.state flash).pages }

@@ -10,7 +10,7 @@ use crate::pages::{BLANK_PAGE, pages_of, tear_sector, write_page};
 use std::alloc::{AllocError, Global};
 
 /// A page for which no memory was taken.
-static BLANK: [u8; 32] = [255; 32];
+pub(crate) static BLANK: [u8; 32] = [255; 32];
 
 /// The pages of a sector. Its memory is reserved when it is made, and first touched as far as a page is written.
 #[derive(Drop)]

@@ -64,6 +64,8 @@ pub trait Blocks {
     ghost state: { Self → BlocksState };
 
     /// Looks at the device as a power-up left it. It answers `Ok` only where the image has no fault.
+    ///
+    /// At `Err` nothing was written: after `Flash` mount again; after `Damaged` only a new image helps.
     fn mount(&mut self) -> Result<(), BlockFault>
         ensures values { SameValues (state self.old) (state self.new) }
         ensures calls { Calls (state self.old) (state self.new) result }
@@ -78,6 +80,9 @@ pub trait Blocks {
         ensures costs { MountCosts (state self.old) (state self.new) };
 
     /// Gives a block these bytes.
+    ///
+    /// At `Err` the block holds what it held or these bytes. After `Flash` write again; after `Full` free room by shorter or fewer blocks; after
+    /// `SequenceSpent` or `Damaged` only a new image takes the record.
     fn write(&mut self, block: u16, bytes: &[u8]) -> Result<(), BlockFault>
         requires number { Contains (state self.old).numbers block }
         requires least { 1 ≤ length bytes.now }
@@ -88,7 +93,8 @@ pub trait Blocks {
         ensures stale { Settles result (state self.new) }
         ensures costs { Costs (state self.old) (state self.new) (length bytes.now) };
 
-    /// Reads a block to the start of `out`. What lies past its bytes, and all of `out` after an error, stays.
+    /// Reads a block to the start of `out`. What lies past its bytes stays. At `Err` all of `out` stays, and no block changed: after `Flash` read
+    /// again; after `Damaged` only a new image helps.
     fn read(&mut self, block: u16, out: &mut [u8; 128]) -> Result<Found, BlockFault>
         requires { Contains (state self.old).numbers block }
         ensures found { IfOk result (λ found. ReadsContent ((state self.old).value block) found out.old out.new) }
@@ -107,7 +113,7 @@ pub trait Blocks {
         requires number { Contains (state self.now).numbers block }
         ensures { result ≡ found_of ((state self.now).value block) };
 
-    /// Makes a block invalid.
+    /// Makes a block invalid. At `Err` the block is as it was or invalid, and what helps is what helps after a write.
     fn invalidate(&mut self, block: u16) -> Result<(), BlockFault>
         requires { Contains (state self.old).numbers block }
         ensures changes { Changes (state self.old) (state self.new) block invalid 0 result }

@@ -4,6 +4,7 @@ ghost use Rattle.flt_flash.specs.Changes.{blank_image, changed_by, AreReached};
 ghost use Rattle.flt_flash.specs.PageArrays.{all_pages};
 
 use crate::PageArray;
+use crate::array::BLANK;
 use std::alloc::{AllocError, Global};
 
 /// A page that was not as at the power-up before.
@@ -23,9 +24,6 @@ pub struct BootMark {
     /// How many of the changes lead from a blank image to the one that it found.
     pub changes: u64,
 }
-
-/// A page that no power-up found otherwise.
-static BLANK: [u8; 32] = [255; 32];
 
 /// The power-ups of a device in memory: of each the pages that changed since the one before. All room is reserved when it is made.
 #[derive(Drop)]

@@ -25,7 +25,7 @@ pub trait Flash {
         ensures { result ≡ (state self.now).pages };
 
     /// Reads a page. A read, one that fails too, changes no bit and turns the flash neither off nor on; one that fails says nothing
-    /// of `out`.
+    /// of `out`. At `Err` read the page again.
     fn read_page(&mut self, sector: u8, page: u16, out: &mut [u8; 32]) -> Result<(), FlashFailed>
         requires sector { sector < 2 }
         requires page { page < (state self.old).pages }
@@ -35,7 +35,7 @@ pub trait Flash {
         ensures wear { (state self.new).wear ≡ (state self.old).wear }
         ensures operation { Operates (state self.old) (state self.new) result };
 
-    /// Programs a page that is blank. After a failure each of its bits is as before or as asked.
+    /// Programs a page that is blank. At `Err` each of its bits is as before or as asked: read the page, and program another one.
     fn program(&mut self, sector: u8, page: u16, bytes: &[u8; 32]) -> Result<(), FlashFailed>
         requires sector { sector < 2 }
         requires page { page < (state self.old).pages }
@@ -45,7 +45,7 @@ pub trait Flash {
         ensures wear { (state self.new).wear ≡ (state self.old).wear }
         ensures operation { Operates (state self.old) (state self.new) result };
 
-    /// Makes every bit of a sector 1. After a failure each of its bits is as before or 1.
+    /// Makes every bit of a sector 1. At `Err` each of its bits is as before or 1: erase the sector again before a page is programmed.
     fn erase(&mut self, sector: u8) -> Result<(), FlashFailed>
         requires { sector < 2 }
         ensures erased { OnOk result ((state self.new).image ≡ erased (state self.old).image sector) }

@@ -73,6 +73,9 @@ impl<B: Blocks + Drop> Nvm<B> {
     }
 
     /// Mounts the driver. No block changes, and no sequence number is used. `Flash` comes only where three mounts failed.
+    ///
+    /// At `Err` make no other call before a start that answers `Ok`: after `Flash` start again, now or after the next power-up; after
+    /// `Damaged` only a new image helps.
     pub fn start(&mut self) -> Result<(), BlockFault>
         ensures mounted { MountsInAJob (driver_of self.old) (driver_of self.new) result }
         ensures table { table_of self.new ≡ table_of self.old }
@@ -98,7 +101,8 @@ impl<B: Blocks + Drop> Nvm<B> {
     ///
     /// After an error the block, the index or each copy holds what it held or `bytes`, and copy 2 what it held where the job on
     /// copy 1 failed; no other block and no other index changes. `Flash` comes only where three tries failed; each other fault of
-    /// the driver ends the job at once.
+    /// the driver ends the job at once. At `Err` write the bytes again after `Flash`; after `Full` or `SequenceSpent` only another image takes
+    /// them.
     pub fn write(&mut self, id: u16, index: u8, bytes: &[u8]) -> Result<(), BlockFault>
         requires index { HasIndex (table_of self.old) id index }
         requires least { 1 ≤ length bytes.now }
@@ -125,7 +129,7 @@ impl<B: Blocks + Drop> Nvm<B> {
     }
 
     /// Makes a native block, an index of a dataset or both copies of a redundant block invalid, in the order and with the faults
-    /// of `write`.
+    /// of `write`. At `Err` do as after a `write`.
     pub fn invalidate(&mut self, id: u16, index: u8) -> Result<(), BlockFault>
         requires { HasIndex (table_of self.old) id index }
         ensures { GivesBlock id index invalid 0 self.old self.new result }
@@ -139,7 +143,7 @@ impl<B: Blocks + Drop> Nvm<B> {
     }
 
     /// Reads copy 1 or copy 2 of a redundant block alone, in one job, to the start of `out`. What lies past its bytes, and all of
-    /// `out` after an error, stays; no block changes.
+    /// `out` after an error, stays; no block changes. At `Err` read the other copy, or this one again.
     pub fn read_copy(&mut self, id: u16, copy: u8, out: &mut [u8; 128]) -> Result<Got, BlockFault>
         requires redundant { IsRedundant (table_of self.old) id }
         requires least { 1 ≤ copy }
@@ -184,7 +188,8 @@ impl<B: Blocks + Drop> Nvm<B> {
 
     /// Reads a native block, an index of a dataset or a redundant block to the start of `out`: of a redundant block copy 1, and
     /// copy 2 where copy 1 is missing, invalid or can't be read. Where neither has bytes the answer is `Flash` if one of the two
-    /// could not be read, else what copy 1 is. What lies past the bytes, and all of `out` after an error, stays; no block changes.
+    /// could not be read, else what copy 1 is. What lies past the bytes, and all of `out` after an error, stays; no block changes. At `Err` read
+    /// again.
     pub fn read(&mut self, id: u16, index: u8, out: &mut [u8; 128]) -> Result<Got, BlockFault>
         requires { HasIndex (table_of self.old) id index }
         ensures { ReadsBlock id index self.old self.new out.old out.new result }
@@ -199,7 +204,7 @@ impl<B: Blocks + Drop> Nvm<B> {
 
     /// Makes both copies of a redundant block hold `bytes`, which copy `copy`, 1 or 2, holds. That copy is never written: the other
     /// is read, and written where it does not hold them or can't be read in three tries. After an error the other copy holds what it
-    /// held or `bytes`, and the driver may be stale: `start` comes before `look_up` and `spent` then.
+    /// held or `bytes`, and the driver may be stale: at `Err` call `start` before `look_up` and `spent`, and repair again after `Flash`.
     pub fn repair(&mut self, id: u16, copy: u8, bytes: &[u8]) -> Result<(), BlockFault>
         requires redundant { IsRedundant (table_of self.old) id }
         requires least_copy { 1 ≤ copy }

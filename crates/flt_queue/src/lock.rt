@@ -19,7 +19,7 @@ use std::sync::Wait;
 /// The right to call a locked queue.
 pub type QueueSeat = Seat<BoxedQueue>;
 
-/// What a call was told, or that no call was left to its seat.
+/// What a call was told. At `Err` its seat has no call left, and nothing was changed: make the call on a seat that has calls left.
 pub type QueueAnswer = Result<Answer<QueueReply>, HistoryFull<QueueOp>>;
 
 /// The same without the job that was taken, which stands elsewhere.
@@ -45,7 +45,7 @@ impl QueueLock {
     /// A lock over a queue of this many blocks, at most 40, and its main seat, to which all calls are left. The lock takes `room`
     /// calls in all: their entries in the journal are reserved here, and no later call takes memory.
     ///
-    /// The error means that there was no memory.
+    /// At `Err` there was not enough memory: ask for fewer calls, or try when memory is free.
     pub fn make(alloc: Global, blocks: u8, room: u32) -> Result<(QueueLock, QueueSeat), AllocError>
         requires { blocks ≤ 40 }
         ensures ok { IfOk result (λ made. made.1 ≡ main_seat made.0.turn blocks room) }

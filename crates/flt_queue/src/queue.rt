@@ -79,7 +79,8 @@ fn take_first(jobs: &mut HeapCircularBuffer<Job>) -> Job
 impl JobQueue {
     ghost use Rattle.flt_queue.specs.Stands.{Stands};
 
-    /// A queue of this many blocks, at most 40, that took no call yet. The error means that memory ran out; no later call takes any.
+    /// A queue of this many blocks, at most 40, that took no call yet. No later call takes memory. At `Err` there was not enough
+    /// memory: try when it is free.
     pub fn new(alloc: Global, blocks: u8) -> Result<JobQueue, AllocError>
         requires { blocks ≤ 40 }
         ensures blocks { IfOk result (λ queue. queue.blocks ≡ blocks) }

@@ -27,7 +27,7 @@ use std::sync::Wait;
 /// The right to call a locked status machine.
 pub type DemSeat = Seat<Guarded>;
 
-/// What a call was told, or that no call was left to its seat.
+/// What a call was told. At `Err` its seat has no call left, and nothing was changed: make the call on a seat that has calls left.
 pub type DemAnswer = Result<Answer<Reply>, HistoryFull<Op>>;
 
 /// What a lock leaves when it ends.
@@ -61,7 +61,7 @@ impl DemLock {
     /// A lock over a unit that was started and took no call since, and its main seat, to which all calls are left. The lock takes
     /// `room` calls in all: their entries in the journal are reserved here, and no later call takes memory.
     ///
-    /// `MachineBack` means that there was no memory. The unit comes back as it was.
+    /// At `Err` there was not enough memory: `MachineBack` has the unit as it was. Ask for fewer calls, or try when memory is free.
     pub fn make(
         alloc: Global,
         unit: BoxedUnit,

@@ -1,7 +1,7 @@
 -- What the writes of a save cost, in operations of the device.
-use Rattle.std.specs.Prelude.{ℕ, ◌≤◌, List, [], sum_by, if◌then◌else◌, Option, Some, None, IsFalse}
+use Rattle.std.specs.Prelude.{ℕ, ◌≤◌, List, [], length, sum_by, if◌then◌else◌, Option, Some, None, IsFalse}
 use Rattle.std.specs.List.{range_with_len}
-use Rattle.flt_flash.specs.Blocks.{BlocksState}
+use Rattle.flt_flash.specs.Blocks.{BlocksState, record_pages}
 use Rattle.flt_flash.specs.Calls.{NoFault, NoErase, CostsAtMost, switch_cost}
 use Rattle.flt_config.specs.declared.config.Config.{Config}
 use Rattle.flt_store_model.specs.declared.commit.Commit.{Commit}
@@ -22,7 +22,12 @@ pub record Spends (most : ℕ) (before after : BlocksState) (pages limit : ℕ) 
 abbrev pub weight_written : Config → Option Commit → Commit → (ℕ → ℕ) → ℕ → ℕ
 weight_written c current next weight id = if is_written c current next id then weight id else 0
 
--- The same of so many blocks.
+-- What a block of the next commit costs where it is written, where each record costs at most so many operations; else nothing.
+abbrev pub SpendsOnBlock : Config → Option Commit → Commit → (ℕ → List ℕ) → ℕ → BlocksState → BlocksState → Type 0
+SpendsOnBlock c current next bytes_of id before after = (most : ℕ)
+    → Spends most before after (weight_written c current next (λ id. record_pages (length (bytes_of id))) id) (weight_written c current next (λ id. most) id)
+
+-- The weight of so many blocks.
 unfoldable pub written_sum : Config → Option Commit → Commit → (ℕ → ℕ) → ℕ → ℕ
 written_sum c current next weight count = sum_by (weight_written c current next weight) (range_with_len first_part count)
 

@@ -9,7 +9,7 @@ ghost use Rattle.flt_store_model.specs.Successor.{OnlyNewBlock, OnlyNewBlocks, i
 ghost use Rattle.flt_image.specs.Blocks.{bytes_at};
 ghost use Rattle.flt_image.specs.Table.{block_table};
 ghost use Rattle.flt_store.specs.Cause.{Writes};
-ghost use Rattle.flt_store.specs.Cost.{Spends, weight_written, written_sum};
+ghost use Rattle.flt_store.specs.Cost.{Spends, SpendsOnBlock, written_sum};
 ghost use Rattle.flt_store.specs.Saving.{AreWritable, CanSaveBehind, FormsNext, IsKnownCurrent, SpendsOnSave, WritesBehind, WritesGeneration, WritesOwn};
 ghost use Rattle.flt_store.specs.Started.{next_generation};
 ghost use Rattle.flt_store.specs.Writing.{AreWritten, IsBlockWritten};
@@ -56,9 +56,7 @@ fn write_moved<B: Blocks + Drop>(
     ensures written { OnOk result (IsTrue (is_written config.now current.now next.now id) → IsBlockWritten next.now (bytes_at blocks.now) (driver_of nvm.new).value id) }
     ensures only { OnlyNewBlock config.now current.now next.now (bytes_at blocks.now) id (driver_of nvm.old).value (driver_of nvm.new).value }
     ensures own { WritesOwn config.now (driver_of nvm.old) (driver_of nvm.new) result }
-    ensures spends { (most : ℕ) → Spends most (driver_of nvm.old) (driver_of nvm.new)
-        (weight_written config.now current.now next.now (λ id. record_pages (length (bytes_at blocks.now id))) id)
-        (weight_written config.now current.now next.now (λ id. most) id) }
+    ensures spends { SpendsOnBlock config.now current.now next.now (bytes_at blocks.now) id (driver_of nvm.old) (driver_of nvm.new) }
     ensures table { table_of nvm.new ≡ table_of nvm.old }
 {
     if is_written(config, current, next, id) {

@@ -134,8 +134,8 @@ impl<B: Blocks + Drop> Store<B> {
     /// an earlier save failed and the copies can't be made equal for want of a sequence number. It is `Ok` where that has another number,
     /// the flash failed less than three times and a sequence number is left.
     ///
-    /// At `Err` the store still runs. After `Flash` save again, with the newest state. After `Spent` or `SequenceSpent` only another
-    /// image takes more generations.
+    /// At `Err` the store still runs. After `Flash` save again, with the newest state. After `Spent` or `SequenceSpent` another image is
+    /// needed for more generations.
     pub fn save(&mut self, config: &ValidConfig, state: &Persist) -> Result<u32, SaveFault>
         requires alive { IsAlive config.now self.old }
         requires fits { Fits config.now state.now }

@@ -56,7 +56,7 @@ impl<M: Machine> Turn<M> {
     /// A lock over a machine that took no operation yet, and its main seat, which has all calls. `room` is the number of calls
     /// that the lock takes in all: their entries in the journal are reserved here, and no later call allocates memory.
     ///
-    /// `MachineBack` means that there was not enough memory.
+    /// At `Err` there was not enough memory: `MachineBack` has the machine as it was. Ask for fewer calls, or try when memory is free.
     pub fn make(alloc: Global, machine: M, room: u32) -> Result<(Turn<M>, Seat<M>), MachineBack<M>>
         requires { M.stands_for machine (M.start machine) [] }
         ensures ok { IfOk result (λ made. made.1 ≡ main_seat made.0 (M.start machine) room) }
@@ -100,8 +100,9 @@ impl<M: Machine> Turn<M> {
     /// Makes a call when its turn comes: after all calls that drew their tickets before, and before all later ones. It allocates no
     /// memory.
     ///
-    /// The reply is the machine's answer after the operations before the call's place in the journal. `HistoryFull` is returned if
-    /// and only if the seat has no call left; then nothing was changed, and the operation is given back.
+    /// The reply is the machine's answer after the operations before the call's place in the journal. At `Err`, if and only if the seat has no
+    /// call left, nothing was changed, and `HistoryFull` has the operation: make the call on a seat that has calls left, or end the lock
+    /// and make one with more room.
     #[inline(always)]
     pub fn call<R: Wait>(
         &self,
@@ -132,7 +133,7 @@ impl<M: Machine> Turn<M> {
     }
 
     /// Makes a call as `call` does, without the machine's buffer: what the operation would write is not written. The answer is small:
-    /// it has only the kind of the reply, and the rest of the reply is in `payload`.
+    /// it has only the kind of the reply, and the rest of the reply is in `payload`. At `Err` do as at that of `call`.
     #[inline(always)]
     pub fn call_into<R: Wait>(
         &self,

@@ -66,7 +66,7 @@ impl<B: Blocks + Drop> Store<B> {
     ///
     /// After `Ok` the block holds them; after an error it holds what it held or them. No other block and no generation changes.
     /// `Flash` comes only where three tries failed, `SequenceSpent` only where the record can't be written any more; where neither
-    /// holds it is `Ok`. At `Err` the store still runs: after `Flash` put the bytes again, after `SequenceSpent` only another image takes them.
+    /// holds it is `Ok`. At `Err` the store still runs: after `Flash` put the bytes again, after `SequenceSpent` another image is needed.
     pub fn put_block(&mut self, block: u8, bytes: &[u8]) -> Result<(), PutFault>
         requires alive { (c : Config) × (block < c.blocks) × IsAlive c self.old }
         requires can { CanPut block bytes.now }

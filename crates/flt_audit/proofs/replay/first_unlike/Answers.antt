@@ -43,7 +43,7 @@ returns-then-ne g c =
     let printed = λ (life : Start) (stands : Stands life [] (state_of c.args.unit.now)).
     c.as_slice.ensures.value ∙ c.in_ok-put_reply.ensures.ok ∙ ap (λ (front : List ℕ). front ++ reply_text (reply_with kind c.deref.result.now)) c.clear.ensures.items
     ∙ ap (λ (bytes : List ℕ). reply_text (reply_with kind bytes)) c.deref.ensures.0
-    ∙ ap reply_text (c.apply_into-kind.ensures.answer life past (c.loop-place.invariant.stands life stands)) in
+    ∙ ap reply_text (c.apply_into-kind.ensures.applied.answer life past (c.loop-place.invariant.stands life stands)) in
     let given : get_or (seen texts) place [] ≡ c.as_bytes.result.now = sym (c.as_bytes.ensures.value ∙ seen_at texts place none among_texts) in
     let other = other_texts (get_or (seen texts) place []) (reply_text (answer life past op)) c.as_slice.result.now c.as_bytes.result.now given (printed life stands)
     (not-true _ (sym c.ne.ensures ∙ c.if-ne.true)) in
@@ -65,13 +65,13 @@ loop-place-preserved g c =
     let printed = λ (life : Start) (stands : Stands life [] (state_of c.args.unit.now)).
     c.as_slice.ensures.value ∙ c.in_ok-put_reply.ensures.ok ∙ ap (λ (front : List ℕ). front ++ reply_text (reply_with kind c.deref.result.now)) c.clear.ensures.items
     ∙ ap (λ (bytes : List ℕ). reply_text (reply_with kind bytes)) c.deref.ensures.0
-    ∙ ap reply_text (c.apply_into-kind.ensures.answer life past (c.loop-place.invariant.stands life stands)) in
+    ∙ ap reply_text (c.apply_into-kind.ensures.applied.answer life past (c.loop-place.invariant.stands life stands)) in
     let given : get_or (seen texts) place [] ≡ c.as_bytes.result.now = sym (c.as_bytes.ensures.value ∙ seen_at texts place none among_texts) in
     let next = one_call_more calls place call among in
     record {
-      config = c.apply_into-kind.ensures.config ∙ c.loop-place.invariant.config;
+      config = c.apply_into-kind.ensures.applied.config ∙ c.loop-place.invariant.config;
       stands = λ life stands.
-          subst (λ history. Stands life history (state_of c.apply_into-kind.new.self)) (sym next) (c.apply_into-kind.ensures.stands life past (c.loop-place.invariant.stands life stands));
+          subst (λ history. Stands life history (state_of c.apply_into-kind.new.self)) (sym next) (c.apply_into-kind.ensures.applied.stands life past (c.loop-place.invariant.stands life stands));
       left = λ life stands.
           let same = same_texts (get_or (seen texts) place []) (reply_text (answer life past op)) c.as_slice.result.now c.as_bytes.result.now given (printed life stands)
           (not-false _ (sym c.ne.ensures ∙ c.if-ne.false)) in

@@ -15,6 +15,9 @@ returns-in-Err-Damaged c =
     sym (λ i. first_fault (c.config.ensures.value i).pages (c.in_ok-numbers.ensures i) image) ∙ sym made ∙ (c.in-Err-Damaged.ensures.calls.damaged c.in-Err-Damaged.sector c.in-Err-Damaged.page (ap Err c.in-Err-Damaged.field-0-is)).0 in
     told_damage c.args.config.now image c.in-Err-Damaged.sector c.in-Err-Damaged.page at
 
+pub unreachable-requires-in-Err-Full : goal.unreachable-requires-in-Err-Full
+unreachable-requires-in-Err-Full c = c.in-Err-Full.ensures.never_full.full c.in-Err-Full.field-0-0 c.in-Err-Full.field-0-1 (ap Err c.in-Err-Full.field-0-is)
+
 pub returns : goal.returns
 returns c =
     let config = c.args.config.now in

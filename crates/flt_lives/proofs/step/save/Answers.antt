@@ -109,3 +109,9 @@ returns-in-Ok-clause-gives g c = gives_none (driver_of c.args.store.now) (driver
 
 pub returns-in-Err-clause-gives : goal.returns-in-Err-clause-gives
 returns-in-Err-clause-gives g c = gives_none (driver_of c.args.store.now) (driver_of c.save.new.self) c.save.ensures.driver.calls
+
+pub returns-in-Ok-clause-applications : goal.returns-in-Ok-clause-applications
+returns-in-Ok-clause-applications g c = c.save.ensures.driver.applications
+
+pub returns-in-Err-clause-applications : goal.returns-in-Err-clause-applications
+returns-in-Err-clause-applications g c = c.save.ensures.driver.applications

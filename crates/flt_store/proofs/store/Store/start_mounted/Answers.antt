@@ -30,7 +30,7 @@ pub begin_by-requires-clause-read : goal.begin_by-requires-clause-read
 begin_by-requires-clause-read g c = record {
   due = subst (λ (content : Content). IsTrue c.in_ok-found.found.is_mark_due ↔ IsMarkDue (mark_of c.args.config.now) content) (sym (c.restore.ensures.reads.values mark_number)) c.in_ok-found.ensures.mark;
   found = found_in c.args.config.now (driver_of c.args.self.now) (driver_beneath c.restore.new.nvm) c.in_ok-found.found.commit c.restore.new.out c.restore.ensures.reads.values c.in_ok-found.ensures.restored.restored;
-  not_stale = c.restore.ensures.stays;
+  not_stale = c.restore.ensures.reads.not_stale;
 }
 
 begins : (g : _) (c : After-begin_by g) → Begins c.args.config.now (driver_beneath c.restore.new.nvm).value c.in_ok-found.found.commit (generation c.in_ok-found.found.commit c.restore.new.out)
