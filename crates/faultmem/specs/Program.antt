@@ -2,7 +2,7 @@
 use Rattle.std.specs.Prelude.{◌≡◌, ◌==◌, ◌⊎◌, ℕ, List, [], ◌∷◌, if◌then◌else◌}
 use Rattle.flt_io.specs.Fault.{Rose}
 use Rattle.flt_program.specs.declared.choosing.Ended.{Ended}
-use Rattle.flt_program.specs.Program.{status_of}
+use Rattle.flt_program.specs.Program.{program_status}
 
 -- The kinds of value that have a subscriber, each of which is told of the changes of a watch.
 abbrev pub program_kinds : List ℕ
@@ -22,4 +22,4 @@ IsExit faults faults_after status exit =
 pub record Exits {B E : Type 0} {F : _} {g : _} (Ends : Ended B E F g → Type 0) (faults faults_after exit : ℕ) : Type 0 where
   pub ended : Ended B E F g
   pub ends : Ends ended
-  pub exit_is : IsExit faults faults_after (status_of ended) exit
+  pub exit_is : IsExit faults faults_after (program_status ended) exit

@@ -12,7 +12,7 @@ use Rattle.flt_filter.specs.declared.verdict.Verdict.{Verdict}
 use Rattle.flt_trace.specs.Trace.{IsTrace, Texts, trace_data}
 use Rattle.flt_trace.proofs.Line.{is_trace}
 use Rattle.flt_trace.specs.Call.{AreCallTexts}
-use Rattle.flt_audit.specs.Shape.{Told, Tells}
+use Rattle.flt_audit.specs.Shape.{ToldLife, TellsLife}
 use Rattle.flt_audit.specs.Audit.{IsAudited, IsDueOf, IsDueOfTexts, TellsNone, due_texts, judged, no_json, no_trace, unlike_from, verdict_by}
 
 -- What is said of a value that is there.
@@ -43,7 +43,7 @@ module _ (dids : List DidUse) where
   none_due texts (Err e) none is = tt
 
   pub told_due : {E : Type 0} (texts : Texts) (line : Result Verdict E) (count : ℕ) (unlike : Option ℕ) → count ≡ length texts.journal
-      → (told : Told) × Tells dids texts told × (unlike ≡ unlike_from 0 texts.answers (due_texts told))
+      → (told : ToldLife) × TellsLife dids texts told × (unlike ≡ unlike_from 0 texts.answers (due_texts told))
       → IfOk line (λ v. due_of v ≡ verdict_by count unlike) → IfOk line (λ v. IsDueOfTexts dids texts (due_of v))
   told_due texts (Ok v) count unlike many told is = inr (told.0, told.1, is ∙ (λ i. verdict_by (many i) (told.2 i)))
   told_due texts (Err e) count unlike many told is = tt

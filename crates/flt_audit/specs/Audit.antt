@@ -12,7 +12,7 @@ use Rattle.flt_filter.specs.Verdict.{Due, line_due}
 use Rattle.flt_trace.specs.Trace.{IsTrace, Texts}
 use Rattle.flt_audit.specs.declared.auditing.Audited.{Audited}
 use Rattle.flt_audit.specs.declared.auditing.Audited.TheVariants.{NoLife, AllDue, Differs}
-use Rattle.flt_audit.specs.Shape.{Told, Tells}
+use Rattle.flt_audit.specs.Shape.{ToldLife, TellsLife}
 
 -- The value that bytes are, or none where they are no JSON.
 abbrev pub IsJson : List ℕ → Option Data → Type 0
@@ -20,7 +20,7 @@ IsJson bytes None = IsUtf8 bytes → read bytes ≡ None
 IsJson bytes (Some d) = IsUtf8 bytes × (read bytes ≡ Some d)
 
 -- The texts of the answers that are due: each is the machine's, after the calls before its place.
-abbrev pub due_texts : Told → List (List ℕ)
+abbrev pub due_texts : ToldLife → List (List ℕ)
 due_texts told = map reply_text (answers (record { config = told.config; base = told.base }) [] (ops_of told.journal))
 
 -- The first place, from this one on, at which two lists of texts differ.
@@ -33,23 +33,23 @@ abbrev pub verdict_by : ℕ → Option ℕ → Due
 verdict_by calls None = line_due 0 (codes "yes " ++ decimal calls)
 verdict_by calls (Some place) = line_due 13 (codes "no " ++ decimal place)
 
-abbrev pub verdict : Texts → Told → Due
+abbrev pub verdict : Texts → ToldLife → Due
 verdict texts told = verdict_by (length texts.journal) (unlike_from 0 texts.answers (due_texts told))
 
 -- Texts that tell no life.
 abbrev pub TellsNone : List DidUse → Texts → Type 0
-TellsNone dids texts = (told : Told) → Tells dids texts told → ⊥
+TellsNone dids texts = (told : ToldLife) → TellsLife dids texts told → ⊥
 
 -- What came of the texts of a trace: they tell no life, or the answers of the life that they tell differ first at this place, or nowhere.
 abbrev pub IsAuditOf : List DidUse → Texts → Audited → Type 0
 IsAuditOf dids texts NoLife = TellsNone dids texts
-IsAuditOf dids texts AllDue = (told : Told) × Tells dids texts told × (None ≡ unlike_from 0 texts.answers (due_texts told))
-IsAuditOf dids texts (Differs place) = (told : Told) × Tells dids texts told × (Some place ≡ unlike_from 0 texts.answers (due_texts told))
+IsAuditOf dids texts AllDue = (told : ToldLife) × TellsLife dids texts told × (None ≡ unlike_from 0 texts.answers (due_texts told))
+IsAuditOf dids texts (Differs place) = (told : ToldLife) × TellsLife dids texts told × (Some place ≡ unlike_from 0 texts.answers (due_texts told))
 
 -- What is due of texts: the verdict of the life that they tell, or that they tell none.
 abbrev pub IsDueOfTexts : List DidUse → Texts → Due → Type 0
 IsDueOfTexts dids texts due =
-    (TellsNone dids texts × (due ≡ line_due 12 (codes "shape"))) ⊎ ((told : Told) × Tells dids texts told × (due ≡ verdict texts told))
+    (TellsNone dids texts × (due ≡ line_due 12 (codes "shape"))) ⊎ ((told : ToldLife) × TellsLife dids texts told × (due ≡ verdict texts told))
 
 -- What is due of a value: that it is none, or no trace, or what is due of the texts of a trace.
 pub data IsDueOf (dids : List DidUse) : Option Data → Due → Type 0 where

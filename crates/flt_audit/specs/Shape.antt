@@ -11,13 +11,13 @@ use Rattle.flt_trace.specs.Base.{IsBaseOf}
 use Rattle.flt_trace.specs.Call.{AreCallTexts}
 
 -- A life under a configuration: the state with which it began, and its calls in their order.
-pub record Told : Type 0 where
+pub record ToldLife : Type 0 where
   pub config : Config
   pub base : Persist
   pub journal : List (Entry Op)
 
 -- These texts tell this life, and have an answer for each call.
-pub record Tells (dids : List DidUse) (texts : Texts) (told : Told) : Type 0 where
+pub record TellsLife (dids : List DidUse) (texts : Texts) (told : ToldLife) : Type 0 where
   pub script : ScriptContent
   pub reads : script_of dids texts.script ≡ Ok script
   pub config : script.config ≡ told.config

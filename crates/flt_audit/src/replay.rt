@@ -5,8 +5,8 @@ ghost use Rattle.flt_model.specs.Start.{Start};
 ghost use Rattle.flt_report.specs.Answer.{reply_text};
 ghost use Rattle.flt_turn.specs.Journal.{ops_of};
 ghost use Rattle.flt_dcm.specs.Unit.{IsAdmitted, Stands};
-ghost use Rattle.flt_dcm.specs.Whole.{config_of, state_of};
-ghost use Rattle.flt_trace.specs.Trace.{seen};
+ghost use Rattle.flt_dcm.specs.Whole.{config_of, unit_seen};
+ghost use Rattle.flt_trace.specs.Trace.{texts_seen};
 ghost use Rattle.flt_audit.specs.Audit.{unlike_from};
 
 use arrayvec::ArrayVec;
@@ -28,8 +28,8 @@ pub(crate) fn first_unlike(
 ) -> Result<Option<usize>, AllocError>
     requires many { length texts.now ≡ length calls.now }
     requires admitted { All (IsAdmitted (config_of unit.old)) (ops_of calls.now) }
-    ensures { IfOk result (λ found. (life : Start) → Stands life [] (state_of unit.old) →
-        found ≡ unlike_from 0 (seen texts.now) (map reply_text (answers life [] (ops_of calls.now)))) }
+    ensures { IfOk result (λ found. (life : Start) → Stands life [] (unit_seen unit.old) →
+        found ≡ unlike_from 0 (texts_seen texts.now) (map reply_text (answers life [] (ops_of calls.now)))) }
 {
     let mut response = ArrayVec::<u8, RESPONSE>::new();
     let mut text = Vec::new(alloc);

@@ -43,8 +43,8 @@ head_in bytes =
     let length = from_be_bytes w16 (slice_range bytes 4 6) in
     if is_length valid length then Some (Head (from_be_bytes w16 (slice_range bytes 2 4)) length valid (from_be_bytes w16 (slice_range bytes 6 8))) else None
 
-abbrev pub gate_in : List ℕ → Word
-gate_in bytes = Gate (from_be_bytes w16 (slice_range bytes 2 4)) (from_be_bytes w16 (slice_range bytes 4 6))
+abbrev pub gate_word_in : List ℕ → Word
+gate_word_in bytes = Gate (from_be_bytes w16 (slice_range bytes 2 4)) (from_be_bytes w16 (slice_range bytes 4 6))
 
 -- The word that a tag and the fields after it would give.
 unfoldable pub candidate : List ℕ → Option Word
@@ -53,7 +53,7 @@ candidate bytes =
     if tag == 0x53 then Some (start_in bytes)
     else if tag == 0x41 then Some (active_in bytes)
     else if tag == 0x48 then head_in bytes
-    else if tag == 0x47 then Some (gate_in bytes)
+    else if tag == 0x47 then Some (gate_word_in bytes)
     else None
 
 -- A word whose bytes these are.

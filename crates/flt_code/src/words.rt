@@ -1,7 +1,7 @@
 //! The words of a sector's pages.
 ghost use Rattle.std.specs.Prelude.{◌≡◌, ◌≢◌, Some, IfSome, IfNone};
 ghost use Rattle.flt_code.specs.declared.words.Word.{Word};
-ghost use Rattle.flt_code.specs.Word.{IsWord, IsWordOf, word_bytes, active_in, checked, gate_in, head_in, is_length, start_in, word_of};
+ghost use Rattle.flt_code.specs.Word.{IsWord, IsWordOf, word_bytes, active_in, checked, gate_word_in, head_in, is_length, start_in, word_of};
 
 /// What the 16 bytes of a code word say. Numbers are big-endian, and the word is padded with bytes of 0.
 #[derive(Clone, Copy, Debug, PartialEq, Eq)]
@@ -151,7 +151,7 @@ fn read_head(bytes: &[u8; 16]) -> Option<Word>
 #[inline(always)]
 fn read_gate(bytes: &[u8; 16]) -> Option<Word>
     ensures word { IfSome result (λ word. IsWordOf word bytes.now) }
-    ensures read { result ≡ checked (Some (gate_in bytes.now)) bytes.now }
+    ensures read { result ≡ checked (Some (gate_word_in bytes.now)) bytes.now }
 {
     let [_, _, a, b, c, d, ..] = *bytes;
     let gate = Word::Gate {

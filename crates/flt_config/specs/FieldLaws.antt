@@ -13,26 +13,26 @@ use Rattle.flt_config.specs.Check.{check_of}
 -- ---- their order
 
 -- The position of a field among all fields.
-abbrev pub place_of : Field → ℕ
-place_of Memory = 0
-place_of Pages = 1
-place_of Blocks = 2
-place_of Dtc = 3
-place_of Priority = 4
-place_of Cycle = 5
-place_of Confirm = 6
-place_of Heal = 7
-place_of Age = 8
-place_of FailAt = 9
-place_of PassAt = 10
-place_of Up = 11
-place_of Down = 12
-place_of JumpUp = 13
-place_of JumpDown = 14
-place_of FailTicks = 15
-place_of PassTicks = 16
-place_of DidWidth = 17
-place_of DidSum = 18
+abbrev pub field_position : Field → ℕ
+field_position Memory = 0
+field_position Pages = 1
+field_position Blocks = 2
+field_position Dtc = 3
+field_position Priority = 4
+field_position Cycle = 5
+field_position Confirm = 6
+field_position Heal = 7
+field_position Age = 8
+field_position FailAt = 9
+field_position PassAt = 10
+field_position Up = 11
+field_position Down = 12
+field_position JumpUp = 13
+field_position JumpDown = 14
+field_position FailTicks = 15
+field_position PassTicks = 16
+field_position DidWidth = 17
+field_position DidSum = 18
 
 -- The numbers that belong to no event come first, and then those of each event.
 abbrev pub event_place : Option ℕ → ℕ
@@ -41,7 +41,7 @@ event_place (Some event) = event + 1
 
 -- The position of a number: by its event, and among those of one event by its field.
 abbrev pub number_place : Option ℕ → Field → ℕ
-number_place event field = event_place event * 19 + place_of field
+number_place event field = event_place event * 19 + field_position field
 
 -- ---- their values
 

@@ -26,8 +26,8 @@ least_event = record {
 }
 
 -- A data identifier of this width.
-abbrev pub did : ℕ → DidUse
-did width = record { id = 0x0101; width = width }
+abbrev pub did_of_width : ℕ → DidUse
+did_of_width width = record { id = 0x0101; width = width }
 
 -- An event with the greatest number of each.
 abbrev pub greatest_event : EventCfg
@@ -41,7 +41,7 @@ greatest_event = record {
   indicator = true;
   needs = 255;
   debounce = Counter (pos 32767) (negsuc 32767) (pos 32767) (pos 32767) (Some (pos 32766)) (Some (negsuc 32766));
-  dids = record { items = replicate 4 (did 8) };
+  dids = record { items = replicate 4 (did_of_width 8) };
 }
 
 -- A configuration of these events, with room for them.
@@ -49,19 +49,19 @@ abbrev pub with_events : List EventCfg → Config
 with_events events = record { id = 0; memory = 1; pages = 64; blocks = 0; events = record { items = events } }
 
 -- The fault of a number of the first event.
-abbrev pub told : Field → ℤ → Result Config CfgFault
-told field value = Err (Range (Some 0) field value)
+abbrev pub event_fault : Field → ℤ → Result Config CfgFault
+event_fault field value = Err (Range (Some 0) field value)
 
 -- The configurations at the ends of all ranges are accepted.
 abbrev pub EndsAreAccepted : Type 0
 EndsAreAccepted =
     map check_of (with_events [] ∷ with_events (least_event ∷ greatest_event ∷ [])
     ∷ with_events (record least_event { debounce = Time 1 1 } ∷ [])
-    ∷ with_events (record least_event { debounce = Time 65535 65535; dids = record { items = did 1 ∷ [] } } ∷ [])
+    ∷ with_events (record least_event { debounce = Time 65535 65535; dids = record { items = did_of_width 1 ∷ [] } } ∷ [])
     ∷ record { id = 0; memory = 16; pages = 1024; blocks = 40; events = record { items = [] } } ∷ [])
     ≡ Ok (with_events []) ∷ Ok (with_events (least_event ∷ greatest_event ∷ []))
     ∷ Ok (with_events (record least_event { debounce = Time 1 1 } ∷ []))
-    ∷ Ok (with_events (record least_event { debounce = Time 65535 65535; dids = record { items = did 1 ∷ [] } } ∷ []))
+    ∷ Ok (with_events (record least_event { debounce = Time 65535 65535; dids = record { items = did_of_width 1 ∷ [] } } ∷ []))
     ∷ Ok (record { id = 0; memory = 16; pages = 1024; blocks = 40; events = record { items = [] } }) ∷ []
 
 -- The results of the check of one event each.
@@ -80,10 +80,10 @@ BelowIsTold =
     ∷ record least_event { debounce = Counter (pos 1) (negsuc 1) (pos 1) (pos 1) (Some (negsuc 1)) None }
     ∷ record least_event { debounce = Counter (pos 1) (negsuc 1) (pos 1) (pos 1) None (Some (negsuc 1)) }
     ∷ record least_event { debounce = Time 0 1 } ∷ record least_event { debounce = Time 1 0 }
-    ∷ record least_event { dids = record { items = did 1 ∷ did 0 ∷ [] } } ∷ [])
-    ≡ told Dtc (pos 0) ∷ told Priority (pos 0) ∷ told Confirm (pos 0) ∷ told Heal (pos 0) ∷ told Age (pos 0)
-    ∷ told FailAt (pos 0) ∷ told PassAt (negsuc 32768) ∷ told Up (pos 0) ∷ told Down (pos 0) ∷ told JumpUp (negsuc 1) ∷ told JumpDown (negsuc 1)
-    ∷ told FailTicks (pos 0) ∷ told PassTicks (pos 0) ∷ told DidWidth (pos 0) ∷ []
+    ∷ record least_event { dids = record { items = did_of_width 1 ∷ did_of_width 0 ∷ [] } } ∷ [])
+    ≡ event_fault Dtc (pos 0) ∷ event_fault Priority (pos 0) ∷ event_fault Confirm (pos 0) ∷ event_fault Heal (pos 0) ∷ event_fault Age (pos 0)
+    ∷ event_fault FailAt (pos 0) ∷ event_fault PassAt (negsuc 32768) ∷ event_fault Up (pos 0) ∷ event_fault Down (pos 0) ∷ event_fault JumpUp (negsuc 1) ∷ event_fault JumpDown (negsuc 1)
+    ∷ event_fault FailTicks (pos 0) ∷ event_fault PassTicks (pos 0) ∷ event_fault DidWidth (pos 0) ∷ []
 
 -- A number above its range is reported.
 abbrev pub AboveIsTold : Type 0
@@ -97,11 +97,11 @@ AboveIsTold =
     ∷ record least_event { debounce = Counter (pos 1) (negsuc 0) (pos 1) (pos 1) (Some (pos 1)) None }
     ∷ record least_event { debounce = Counter (pos 1) (negsuc 0) (pos 1) (pos 1) None (Some (pos 1)) }
     ∷ record least_event { debounce = Time 65536 1 } ∷ record least_event { debounce = Time 1 65536 }
-    ∷ record least_event { dids = record { items = did 9 ∷ [] } }
-    ∷ record least_event { dids = record { items = did 1 ∷ replicate 4 (did 8) } } ∷ [])
-    ≡ told Dtc (pos 0xFFFFFF) ∷ told Priority (pos 256) ∷ told Cycle (pos 4) ∷ told Confirm (pos 256) ∷ told Heal (pos 256) ∷ told Age (pos 256)
-    ∷ told FailAt (pos 32768) ∷ told PassAt (pos 0) ∷ told Up (pos 32768) ∷ told Down (pos 32768) ∷ told JumpUp (pos 1) ∷ told JumpDown (pos 1)
-    ∷ told FailTicks (pos 65536) ∷ told PassTicks (pos 65536) ∷ told DidWidth (pos 9) ∷ told DidSum (pos 33) ∷ []
+    ∷ record least_event { dids = record { items = did_of_width 9 ∷ [] } }
+    ∷ record least_event { dids = record { items = did_of_width 1 ∷ replicate 4 (did_of_width 8) } } ∷ [])
+    ≡ event_fault Dtc (pos 0xFFFFFF) ∷ event_fault Priority (pos 256) ∷ event_fault Cycle (pos 4) ∷ event_fault Confirm (pos 256) ∷ event_fault Heal (pos 256) ∷ event_fault Age (pos 256)
+    ∷ event_fault FailAt (pos 32768) ∷ event_fault PassAt (pos 0) ∷ event_fault Up (pos 32768) ∷ event_fault Down (pos 32768) ∷ event_fault JumpUp (pos 1) ∷ event_fault JumpDown (pos 1)
+    ∷ event_fault FailTicks (pos 65536) ∷ event_fault PassTicks (pos 65536) ∷ event_fault DidWidth (pos 9) ∷ event_fault DidSum (pos 33) ∷ []
 
 -- Numbers that belong to no event, DTCs that occur twice, and lack of room: 22 pages, 8 for each 16 events, 10 an entry and 3 a block.
 abbrev pub OthersAreTold : Type 0

@@ -15,7 +15,7 @@ use Rattle.flt_model.specs.declared.request.Request.TheVariants as requests
 use Rattle.flt_model.specs.Request.{RequestBytes}
 use Rattle.flt_dem.specs.Laws.{ClearsNothing}
 use Rattle.flt_dem.specs.Manager.{Manager, StandsFor}
-use Rattle.flt_dem.specs.View.{rules_of, event_seen, view_of}
+use Rattle.flt_dem.specs.View.{rules_of, event_seen, manager_view}
 use Rattle.flt_dem.proofs.IdleLemmas.{stands_idle}
 use Rattle.flt_dcm.specs.Unknown.{ClearsNone}
 use Rattle.flt_dcm.proofs.ListLemmas.{first_found, unknown_dtc}
@@ -26,7 +26,7 @@ module _ (manager : Manager) (dtc : ℕ) where
   seen_test event = ap (has_dtc dtc) (unwrap_or-slice_get manager.durable.config.events.items event no_event)
 
   pub found_event : (event : ℕ) → position (has_dtc dtc) manager.durable.config.events.items ≡ Some event →
-      (event < length manager.durable.config.events.items) × (find (is_of_dtc dtc) (view_of manager).events ≡ Some (event_seen manager event))
+      (event < length manager.durable.config.events.items) × (find (is_of_dtc dtc) (manager_view manager).events ≡ Some (event_seen manager event))
   found_event event is =
       let events = manager.durable.config.events.items in
       let at = position-Some (has_dtc dtc) events event no_event is in
@@ -37,7 +37,7 @@ module _ (manager : Manager) (dtc : ℕ) where
       let at = position-Some (has_dtc dtc) manager.durable.config.events.items event no_event is in
       eqb-true (rules_of manager event).dtc dtc (seen_test event ∙ at.1)
 
-  pub no_event_found : position (has_dtc dtc) manager.durable.config.events.items ≡ None → find (is_of_dtc dtc) (view_of manager).events ≡ None
+  pub no_event_found : position (has_dtc dtc) manager.durable.config.events.items ≡ None → find (is_of_dtc dtc) (manager_view manager).events ≡ None
   no_event_found is =
       let events = manager.durable.config.events.items in
       unknown_dtc (is_of_dtc dtc) manager (length events) (λ k below. seen_test k ∙ position-None (has_dtc dtc) events k no_event is below)

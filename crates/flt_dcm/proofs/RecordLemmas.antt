@@ -6,13 +6,13 @@ use Rattle.flt_config.specs.declared.TheConstants.{DIDS, FRAME}
 use Rattle.flt_model.specs.declared.TheConstants.{RESPONSE}
 use Rattle.flt_config.specs.declared.config.DidUse.{DidUse}
 use Rattle.flt_config.specs.Ranges.{frame_width}
-use Rattle.flt_model.specs.Response.{selects, where_selected, values_of, snapshot}
+use Rattle.flt_model.specs.Response.{selects, where_selected, identified_values, snapshot}
 
-values_length : (dids : List DidUse) (frame : List ℕ) → length (values_of dids frame) ≤ 2 * length dids + frame_width dids
+values_length : (dids : List DidUse) (frame : List ℕ) → length (identified_values dids frame) ≤ 2 * length dids + frame_width dids
 values_length [] frame = omega arith
 values_length (did ∷ dids) frame =
     let rest = values_length dids (drop did.width frame) in
-    let joined = length-append (take did.width frame) (values_of dids (drop did.width frame)) in
+    let joined = length-append (take did.width frame) (identified_values dids (drop did.width frame)) in
     let own = length-take did.width frame in
     let sum = sum_by-cons (λ (d : DidUse). d.width) did dids in
     omega (arith, rest, joined, own, sum)
@@ -32,13 +32,13 @@ snapshot_fits number which dids frame few narrow =
     where_length (selects number which) (snapshot dids which frame) snapshot_size (omega (arith, values, few, narrow))
 
 -- What is left of the data identifiers fits, so the next one does.
-pub value_fits : (old out : List ℕ) (dids : List DidUse) (index : ℕ) (d : DidUse) (rest frame : List ℕ) → out ++ values_of (drop index dids) rest ≡ old ++ values_of dids frame →
-    index < length dids → length old + length (values_of dids frame) ≤ RESPONSE → length out + (2 + length (take (get_or dids index d).width rest)) ≤ RESPONSE
+pub value_fits : (old out : List ℕ) (dids : List DidUse) (index : ℕ) (d : DidUse) (rest frame : List ℕ) → out ++ identified_values (drop index dids) rest ≡ old ++ identified_values dids frame →
+    index < length dids → length old + length (identified_values dids frame) ≤ RESPONSE → length out + (2 + length (take (get_or dids index d).width rest)) ≤ RESPONSE
 value_fits old out dids index d rest frame is within room =
     let did = get_or dids index d in
-    let next = ap (λ left. out ++ values_of left rest) (sym (drop_more dids index d within)) ∙ is in
+    let next = ap (λ left. out ++ identified_values left rest) (sym (drop_more dids index d within)) ∙ is in
     let all = ap length next in
-    let left = length-append out (values_of (did ∷ drop (index + 1) dids) rest) in
-    let right = length-append old (values_of dids frame) in
-    let own = length-append (take did.width rest) (values_of (drop (index + 1) dids) (drop did.width rest)) in
+    let left = length-append out (identified_values (did ∷ drop (index + 1) dids) rest) in
+    let right = length-append old (identified_values dids frame) in
+    let own = length-append (take did.width rest) (identified_values (drop (index + 1) dids) (drop did.width rest)) in
     omega (arith, all, left, right, own, room)

@@ -6,7 +6,7 @@ use Rattle.flt_model.specs.Request.{RequestBytes}
 use Rattle.flt_model.specs.Response.{is_of_dtc}
 use Rattle.flt_model.specs.declared.call.Op.TheVariants as ops
 use Rattle.flt_dem.specs.Manager.{Manager, StandsFor}
-use Rattle.flt_dem.specs.View.{event_seen, view_of}
+use Rattle.flt_dem.specs.View.{event_seen, manager_view}
 
 -- The manager takes each request of a tester that clears this DTC, or each that clears nothing.
 abbrev pub TakesClearOf : Option ℕ → Manager → Manager → Type 0
@@ -23,4 +23,4 @@ TakesBytes bytes old new =
 -- The event is configured, and is the first with this DTC of the events that a tester sees.
 abbrev pub IsEventOf : ℕ → Manager → ℕ → Type 0
 IsEventOf dtc manager event =
-    (event < length manager.durable.config.events.items) × (find (is_of_dtc dtc) (view_of manager).events ≡ Some (event_seen manager event))
+    (event < length manager.durable.config.events.items) × (find (is_of_dtc dtc) (manager_view manager).events ≡ Some (event_seen manager event))

@@ -40,14 +40,14 @@ entered true Default = Extended false 0
 entered true (Extended holds silent) = Extended holds silent
 
 -- The tester switches the setting off or on, in the extended session.
-abbrev pub held : Bool → Session → Session
-held off Default = Default
-held off (Extended holds silent) = Extended off silent
+abbrev pub setting_switched : Bool → Session → Session
+setting_switched off Default = Default
+setting_switched off (Extended holds silent) = Extended off silent
 
 -- A request takes effect.
 abbrev pub after : Session → Request → Session
 after session (requests.Session extended) = entered extended session
-after session (requests.Setting on) = held (not on) session
+after session (requests.Setting on) = setting_switched (not on) session
 after session _ = session
 
 -- A request that was read takes effect, and one that was refused does not.

@@ -7,8 +7,8 @@ use Rattle.flt_dcm.specs.declared.unit.Unit.{Unit}
 use Rattle.flt_dcm.specs.Unit.{UnitView}
 
 -- The unit without its table.
-abbrev pub state_of : {F : _} {g : _} → Unit F g → UnitView
-state_of unit = unit.state
+abbrev pub unit_seen : {F : _} {g : _} → Unit F g → UnitView
+unit_seen unit = unit.state
 
 -- Its configuration.
 abbrev pub config_of : {F : _} {g : _} → Unit F g → Config

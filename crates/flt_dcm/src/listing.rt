@@ -2,7 +2,7 @@
 ghost use Rattle.std.specs.Prelude.{◌≡◌, ◌<◌, ◌≤◌, ◌+◌, ◌++◌, ◌∷◌, [], length, is_some};
 ghost use Rattle.std.specs.List.{flat_map};
 ghost use Rattle.flt_model.specs.Response.{is_masked, is_prefailed, with_status, with_counter, records_of};
-ghost use Rattle.flt_dem.specs.View.{event_seen, rules_of, view_of};
+ghost use Rattle.flt_dem.specs.View.{event_seen, rules_of, manager_view};
 ghost use Rattle.flt_dcm.specs.Listing.{listed, head_of};
 
 use arrayvec::ArrayVec;
@@ -118,7 +118,7 @@ impl Listing {
     /// Appends the beginning of a response with the list, and what the list has of each event in turn.
     pub fn put(self, dem: &DemState, out: &mut ArrayVec<u8, RESPONSE>)
         requires { length out.old.items ≡ 0 }
-        ensures { out.new.items ≡ head_of self ++ flat_map (listed self) (view_of dem.now).events }
+        ensures { out.new.items ≡ head_of self ++ flat_map (listed self) (manager_view dem.now).events }
     {
         self.put_head(out);
         for event in 0..event_count(dem) {
@@ -131,7 +131,7 @@ impl Listing {
 /// finds the events that have one.
 pub(crate) fn put_stored(dem: &DemState, out: &mut ArrayVec<u8, RESPONSE>)
     requires { length out.old.items ≡ 0 }
-    ensures { out.new.items ≡ (0x59 ∷ 0x03 ∷ []) ++ flat_map records_of (view_of dem.now).events }
+    ensures { out.new.items ≡ (0x59 ∷ 0x03 ∷ []) ++ flat_map records_of (manager_view dem.now).events }
 {
     put_bytes(&[0x59, 0x03], out);
     let stored = dem.stored();

@@ -1,7 +1,7 @@
 //! The records of one DTC (ISO 14229-1, service 0x19, sub-functions 0x04 and 0x06).
 ghost use Rattle.std.specs.Prelude.{◌≡◌, ◌<◌, ◌≤◌, ◌+◌, ◌++◌, [], ◌∷◌, length, Some};
 ghost use Rattle.flt_config.specs.Ranges.{frame_width};
-ghost use Rattle.flt_model.specs.Response.{selects, where_selected, values_of, snapshot, snapshots, extended_data};
+ghost use Rattle.flt_model.specs.Response.{selects, where_selected, identified_values, snapshot, snapshots, extended_data};
 ghost use Rattle.flt_dem.specs.View.{event_seen};
 
 use arrayvec::ArrayVec;
@@ -30,8 +30,8 @@ fn selects(number: u8, which: u8) -> bool
 
 /// Appends each data identifier with its value in the frame.
 fn put_values(dids: &[DidUse], frame: &[u8], out: &mut ArrayVec<u8, RESPONSE>)
-    requires { length out.old.items + length (values_of dids.now frame.now) ≤ RESPONSE }
-    ensures { out.new.items ≡ out.old.items ++ values_of dids.now frame.now }
+    requires { length out.old.items + length (identified_values dids.now frame.now) ≤ RESPONSE }
+    ensures { out.new.items ≡ out.old.items ++ identified_values dids.now frame.now }
 {
     let mut rest = frame;
     for did in dids {

@@ -3,7 +3,7 @@ ghost use Rattle.std.specs.Prelude.{◌≡◌, ◌<◌, [], length, filter, find
 ghost use Rattle.std.specs.Result.{result_ok};
 ghost use Rattle.flt_config.specs.Validity.{has_dtc};
 ghost use Rattle.flt_model.specs.Response.{is_masked, is_of_dtc, positive, sub_of_session, sub_of_setting};
-ghost use Rattle.flt_dem.specs.View.{view_of};
+ghost use Rattle.flt_dem.specs.View.{manager_view};
 ghost use Rattle.flt_dem.specs.Notes.{noted_by};
 ghost use Rattle.flt_dem.specs.View.{noted_at};
 ghost use Rattle.flt_dcm.specs.Requests.{IsEventOf};
@@ -26,7 +26,7 @@ pub(crate) struct UnknownDtc;
 pub(crate) fn event_of(dem: &DemState, dtc: u32) -> Result<u16, UnknownDtc>
     ensures position { result_ok result ≡ position (has_dtc dtc) dem.now.durable.config.events.items }
     ensures known { IfOk result (IsEventOf dtc dem.now) }
-    ensures unknown { OnErr result (find (is_of_dtc dtc) (view_of dem.now).events ≡ None) }
+    ensures unknown { OnErr result (find (is_of_dtc dtc) (manager_view dem.now).events ≡ None) }
 {
     match dem.find(dtc) {
         Some(event) => Ok(event),
@@ -50,7 +50,7 @@ fn sub_of_setting(on: bool) -> u8
 
 /// The number of events whose status has a bit in common with a mask.
 fn count_masked(dem: &DemState, mask: u8) -> u16
-    ensures { result ≡ length (filter (is_masked mask) (view_of dem.now).events) }
+    ensures { result ≡ length (filter (is_masked mask) (manager_view dem.now).events) }
 {
     let mut count = 0;
     for event in 0..event_count(dem) {
@@ -77,7 +77,7 @@ fn which_of(sub: u8) -> Which
 /// format identifier of ISO 14229-1 (0x01).
 fn put_count(dem: &DemState, mask: u8, out: &mut ArrayVec<u8, RESPONSE>)
     requires { out.old.items ≡ [] }
-    ensures { positive (view_of dem.now) (Request.Count mask) ≡ Some out.new.items }
+    ensures { positive (manager_view dem.now) (Request.Count mask) ≡ Some out.new.items }
 {
     let [high, low] = count_masked(dem, mask).to_be_bytes();
     put_bytes(&[0x59, 0x01, AVAILABILITY_MASK, 0x01, high, low], out);
@@ -86,7 +86,7 @@ fn put_count(dem: &DemState, mask: u8, out: &mut ArrayVec<u8, RESPONSE>)
 /// Writes the noted DTC with its status, if one is noted.
 fn put_noted(dem: &DemState, sub: u8, out: &mut ArrayVec<u8, RESPONSE>)
     requires { out.old.items ≡ [] }
-    ensures { positive (view_of dem.now) (Request.Noted sub) ≡ Some out.new.items }
+    ensures { positive (manager_view dem.now) (Request.Noted sub) ≡ Some out.new.items }
 {
     put_bytes(&[0x59, sub, AVAILABILITY_MASK], out);
     if let Some(event) = dem.noted(which_of(sub)) {
@@ -99,8 +99,8 @@ fn put_noted(dem: &DemState, sub: u8, out: &mut ArrayVec<u8, RESPONSE>)
 /// Writes that a DTC, or all DTCs, are cleared.
 fn put_clear(dem: &DemState, dtc: u32, out: &mut ArrayVec<u8, RESPONSE>) -> Result<(), UnknownDtc>
     requires { out.old.items ≡ [] }
-    ensures ok { OnOk result (positive (view_of dem.now) (Request.Clear dtc) ≡ Some out.new.items) }
-    ensures err { OnErr result (positive (view_of dem.now) (Request.Clear dtc) ≡ None) }
+    ensures ok { OnOk result (positive (manager_view dem.now) (Request.Clear dtc) ≡ Some out.new.items) }
+    ensures err { OnErr result (positive (manager_view dem.now) (Request.Clear dtc) ≡ None) }
     ensures unknown { OnErr result (ClearsNone dem.now (Request.Clear dtc)) }
 {
     if dtc == ALL_DTCS {
@@ -120,8 +120,8 @@ fn put_snapshots_of(
     out: &mut ArrayVec<u8, RESPONSE>,
 ) -> Result<(), UnknownDtc>
     requires { out.old.items ≡ [] }
-    ensures ok { OnOk result (positive (view_of dem.now) (Request.Snapshot dtc number) ≡ Some out.new.items) }
-    ensures err { OnErr result (positive (view_of dem.now) (Request.Snapshot dtc number) ≡ None) }
+    ensures ok { OnOk result (positive (manager_view dem.now) (Request.Snapshot dtc number) ≡ Some out.new.items) }
+    ensures err { OnErr result (positive (manager_view dem.now) (Request.Snapshot dtc number) ≡ None) }
 {
     let event = event_of(dem, dtc)?;
     put_bytes(&[0x59, 0x04], out);
@@ -138,8 +138,8 @@ fn put_extended_data_of(
     out: &mut ArrayVec<u8, RESPONSE>,
 ) -> Result<(), UnknownDtc>
     requires { out.old.items ≡ [] }
-    ensures ok { OnOk result (positive (view_of dem.now) (Request.Extended dtc number) ≡ Some out.new.items) }
-    ensures err { OnErr result (positive (view_of dem.now) (Request.Extended dtc number) ≡ None) }
+    ensures ok { OnOk result (positive (manager_view dem.now) (Request.Extended dtc number) ≡ Some out.new.items) }
+    ensures err { OnErr result (positive (manager_view dem.now) (Request.Extended dtc number) ≡ None) }
 {
     let event = event_of(dem, dtc)?;
     put_bytes(&[0x59, 0x06], out);
@@ -155,8 +155,8 @@ pub(crate) fn put_positive(
     out: &mut ArrayVec<u8, RESPONSE>,
 ) -> Result<(), UnknownDtc>
     requires { out.old.items ≡ [] }
-    ensures ok { OnOk result (positive (view_of dem.now) request ≡ Some out.new.items) }
-    ensures err { OnErr result (positive (view_of dem.now) request ≡ None) }
+    ensures ok { OnOk result (positive (manager_view dem.now) request ≡ Some out.new.items) }
+    ensures err { OnErr result (positive (manager_view dem.now) request ≡ None) }
     ensures unknown { OnErr result (ClearsNone dem.now request) }
 {
     match request {

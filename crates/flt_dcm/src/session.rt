@@ -1,7 +1,7 @@
 //! The diagnostic session of a tester (ISO 14229-1, services 0x10 and 0x85).
 ghost use Rattle.std.specs.Prelude.{◌≡◌};
 ghost use Rattle.flt_model.specs.Session.{session_timeout};
-ghost use Rattle.flt_dcm.specs.Session.{is_extended_one, has_hold, heard, entered, held, after, ticked};
+ghost use Rattle.flt_dcm.specs.Session.{is_extended_one, has_hold, heard, entered, setting_switched, after, ticked};
 
 use flt_model::Request;
 
@@ -69,7 +69,7 @@ impl Session {
 
     /// The session after its tester switches the setting off or on.
     fn hold(self, off: bool) -> Session
-        ensures { result ≡ held off self }
+        ensures { result ≡ setting_switched off self }
     {
         match self {
             Session::Default => Session::Default,

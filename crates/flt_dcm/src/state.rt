@@ -11,7 +11,7 @@ ghost use Rattle.flt_model.specs.Response.{negative, positive, reply_of, respond
 ghost use Rattle.flt_model.specs.declared.call.Op.TheVariants as ops;
 ghost use Rattle.flt_did.specs.Table.{dids_of};
 ghost use Rattle.flt_did.specs.Serves.{Serves};
-ghost use Rattle.flt_dem.specs.View.{view_of};
+ghost use Rattle.flt_dem.specs.View.{manager_view};
 ghost use Rattle.flt_dcm.specs.Session.{is_extended_one, has_hold, heard, after, after_asked, ticked};
 ghost use Rattle.flt_dcm.specs.Standard.{SaysStandard};
 ghost use Rattle.flt_dcm.specs.Requests.{TakesClearOf, TakesBytes};
@@ -103,7 +103,7 @@ fn respond(
     ensures config { dem.new.durable.config ≡ dem.old.durable.config }
     ensures session { session.new ≡ after session.old asked.request }
     ensures stands { TakesClearOf (dtc_of_clear asked.request) dem.old dem.new }
-    ensures answer { reply_with result out.new.items ≡ responded service asked.silent (positive (view_of dem.old) asked.request) }
+    ensures answer { reply_with result out.new.items ≡ responded service asked.silent (positive (manager_view dem.old) asked.request) }
     ensures never_ignored { ¬ IsIgnored (reply_with result out.new.items) }
     ensures negative { IsNegative (reply_with result out.new.items) → (dem.new ≡ dem.old) × (session.new ≡ session.old) }
 {
@@ -134,7 +134,7 @@ fn answer_request(
     ensures config { dem.new.durable.config ≡ dem.old.durable.config }
     ensures session { session.new ≡ after_asked (heard session.old) (asked (is_extended_one session.old) bytes.now) }
     ensures stands { TakesBytes bytes.now dem.old dem.new }
-    ensures answer { reply_with result out.new.items ≡ response (view_of dem.old) (is_extended_one session.old) bytes.now }
+    ensures answer { reply_with result out.new.items ≡ response (manager_view dem.old) (is_extended_one session.old) bytes.now }
     ensures never_ignored { ¬ IsIgnored (reply_with result out.new.items) }
     ensures negative { IsNegative (reply_with result out.new.items) → (dem.new ≡ dem.old) × (session.new ≡ heard session.old) }
 {

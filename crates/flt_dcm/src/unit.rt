@@ -6,7 +6,7 @@ ghost use Rattle.flt_model.specs.Start.{Start, History, fresh};
 ghost use Rattle.flt_model.specs.Answer.{answer};
 ghost use Rattle.flt_did.specs.Table.{dids_of};
 ghost use Rattle.flt_did.specs.Serves.{Serves};
-ghost use Rattle.flt_dem.specs.Dem.{config_of as dem_config, table_of as dem_table};
+ghost use Rattle.flt_dem.specs.Dem.{manager_config as dem_config, manager_table as dem_table};
 ghost use Rattle.flt_dcm.specs.Standard.{SaysStandard};
 ghost use Rattle.flt_dcm.specs.Unit.{Stands, IsAdmitted, IsTesterCall};
 ghost use Rattle.flt_dcm.specs.Applied.{AppliesCall, WritesState};
@@ -31,14 +31,14 @@ pub struct Unit {
 }
 
 impl Unit {
-    ghost use Rattle.flt_dcm.specs.Whole.{state_of, config_of, table_of};
+    ghost use Rattle.flt_dcm.specs.Whole.{unit_seen, config_of, table_of};
 
     /// A unit with nothing saved, to which no call was made: the manager that it is given is reset,
     /// and each tester is in the default session.
     pub fn make(dem: Dem) -> Unit
         ensures config { config_of result ≡ dem_config dem }
         ensures dids { table_of result ≡ dem_table dem }
-        ensures stands { Stands (fresh (dem_config dem)) [] (state_of result) }
+        ensures stands { Stands (fresh (dem_config dem)) [] (unit_seen result) }
     {
         let Dem { state, dids, .. } = dem;
         Unit {
@@ -53,7 +53,7 @@ impl Unit {
         requires fits { Fits (config_of self.old) base.now }
         ensures config { config_of self.new ≡ config_of self.old }
         ensures dids { table_of self.new ≡ table_of self.old }
-        ensures stands { Stands (record { config = config_of self.old; base = base.now }) [] (state_of self.new) }
+        ensures stands { Stands (record { config = config_of self.old; base = base.now }) [] (unit_seen self.new) }
     {
         self.state.boot(base);
     }
@@ -75,10 +75,10 @@ impl Unit {
     ) -> ReplyKind
         requires admitted { IsAdmitted (config_of self.old) op.now }
         ensures dids { table_of self.new ≡ table_of self.old }
-        ensures applied { AppliesCall op.now (state_of self.old) (state_of self.new) (reply_with result response.new.items) }
+        ensures applied { AppliesCall op.now (unit_seen self.old) (unit_seen self.new) (reply_with result response.new.items) }
         ensures unsent { ¬ IsTesterCall op.now → response.new ≡ response.old }
-        ensures state { WritesState op.now (state_of self.old) out.old out.new }
-        ensures standard { (life : Start) (past : History) → Stands life past (state_of self.old) → SaysStandard life (op.now ∷ past) (state_of self.new).dem }
+        ensures state { WritesState op.now (unit_seen self.old) out.old out.new }
+        ensures standard { (life : Start) (past : History) → Stands life past (unit_seen self.old) → SaysStandard life (op.now ∷ past) (unit_seen self.new).dem }
     {
         self.state.apply_into(&self.dids, op, out, response)
     }
@@ -87,9 +87,9 @@ impl Unit {
     pub fn apply(&mut self, op: &Op, out: &mut Persist) -> Reply
         requires admitted { IsAdmitted (config_of self.old) op.now }
         ensures dids { table_of self.new ≡ table_of self.old }
-        ensures applied { AppliesCall op.now (state_of self.old) (state_of self.new) result }
-        ensures state { WritesState op.now (state_of self.old) out.old out.new }
-        ensures standard { (life : Start) (past : History) → Stands life past (state_of self.old) → SaysStandard life (op.now ∷ past) (state_of self.new).dem }
+        ensures applied { AppliesCall op.now (unit_seen self.old) (unit_seen self.new) result }
+        ensures state { WritesState op.now (unit_seen self.old) out.old out.new }
+        ensures standard { (life : Start) (past : History) → Stands life past (unit_seen self.old) → SaysStandard life (op.now ∷ past) (unit_seen self.new).dem }
     {
         self.state.apply(&self.dids, op, out)
     }

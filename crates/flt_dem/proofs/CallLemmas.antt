@@ -11,7 +11,7 @@ use Rattle.flt_model.specs.declared.call.Op.{Op}
 use Rattle.flt_dem.specs.DurablePart.{DurablePartView}
 use Rattle.flt_dem.specs.Events.{EventsView}
 use Rattle.flt_dem.specs.Standing.{DurablePartStands}
-use Rattle.flt_dem.specs.Debounces.{DebouncesStand, and_then}
+use Rattle.flt_dem.specs.Debounces.{DebouncesStand, and_happening}
 use Rattle.flt_dem.specs.Calls.{StandsAfter, StandsPartly, TakesPart, items_partly, marks_partly}
 use Rattle.flt_dem.proofs.OrderLemmas.{in_order-none, in_order-one}
 
@@ -24,11 +24,11 @@ debounces_same life items others debounces same s = record {
 }
 
 -- What an event is after one more happening of an event.
-pub and_then-own : (event : ℕ) (happening : Option Happening) (items : ℕ → Happenings) → and_then event happening items event ≡ with_happening happening (items event)
-and_then-own event happening items = ap (λ b. cond b (with_happening happening (items event)) (items event)) (eq-eqb event event refl)
+pub and_happening-own : (event : ℕ) (happening : Option Happening) (items : ℕ → Happenings) → and_happening event happening items event ≡ with_happening happening (items event)
+and_happening-own event happening items = ap (λ b. cond b (with_happening happening (items event)) (items event)) (eq-eqb event event refl)
 
-pub and_then-other : (event other : ℕ) (happening : Option Happening) (items : ℕ → Happenings) → event ≢ other → and_then event happening items other ≡ items other
-and_then-other event other happening items ne = ap (λ b. cond b (with_happening happening (items other)) (items other)) (ne_eqb event other ne)
+pub and_happening-other : (event other : ℕ) (happening : Option Happening) (items : ℕ → Happenings) → event ≢ other → and_happening event happening items other ≡ items other
+and_happening-other event other happening items ne = ap (λ b. cond b (with_happening happening (items other)) (items other)) (ne_eqb event other ne)
 
 below_other : (event done : ℕ) → event ≢ done → nat_lt event (suc done) ≡ nat_lt event done
 below_other event done ne =
@@ -41,14 +41,14 @@ module _ (life : Start) (past : History) (op : Op) where
   own_items : (done : ℕ) → items_partly life past op done done ≡ happenings life done past
   own_items done = ap (λ b. cond b (happenings life done (op ∷ past)) (happenings life done past)) (le-ltb done done (omega arith))
 
-  next_items : (done event : ℕ) → and_then done (happening_of life done past op) (items_partly life past op done) event ≡ items_partly life past op (suc done) event
+  next_items : (done event : ℕ) → and_happening done (happening_of life done past op) (items_partly life past op done) event ≡ items_partly life past op (suc done) event
   next_items done event =
       ⊎_elim
-      (λ same. subst (λ x. and_then done (happening_of life done past op) (items_partly life past op done) x ≡ items_partly life past op (suc done) x) same
-      (and_then-own done (happening_of life done past op) (items_partly life past op done)
+      (λ same. subst (λ x. and_happening done (happening_of life done past op) (items_partly life past op done) x ≡ items_partly life past op (suc done) x) same
+      (and_happening-own done (happening_of life done past op) (items_partly life past op done)
       ∙ ap (λ items. with_happening (happening_of life done past op) items) (own_items done)
       ∙ ap (λ b. cond b (happenings life done (op ∷ past)) (happenings life done past)) (sym (lt-ltb done (suc done) (omega arith)))))
-      (λ ne. and_then-other done event (happening_of life done past op) (items_partly life past op done) ne
+      (λ ne. and_happening-other done event (happening_of life done past op) (items_partly life past op done) ne
       ∙ ap (λ b. cond b (happenings life event (op ∷ past)) (happenings life event past)) (sym (below_other event done (λ d. ne (sym d)))))
       (cases_eq done event)
 
@@ -66,7 +66,7 @@ module _ (life : Start) (past : History) (op : Op) where
   partly_next done old new takes s =
       let taken = takes (items_partly life past op done) (marks_partly life past op done) (own_items done) s in
       rw add-one (record {
-        debounces_stand = debounces_same life (and_then done (happening_of life done past op) (items_partly life past op done)) (items_partly life past op (suc done)) new.debounces
+        debounces_stand = debounces_same life (and_happening done (happening_of life done past op) (items_partly life past op done)) (items_partly life past op (suc done)) new.debounces
             (λ event h. next_items done event) taken.debounces_stand;
         durable_stands = taken.durable_stands;
       })
@@ -83,11 +83,11 @@ module _ (life : Start) (past : History) (op : Op) where
       let whole : in_order (event_part life past op) (count life) (trace life past) ≡ event_part life past op event (trace life past) =
       in_order-one (event_part life past op) event (count life) (trace life past) within (λ other marks ne. no_part other marks (others other ne)) in
       record {
-        debounces_stand = debounces_same life (and_then event (happening_of life event past op) (λ e. happenings life e past)) (λ e. happenings life e (op ∷ past)) new.debounces
+        debounces_stand = debounces_same life (and_happening event (happening_of life event past op) (λ e. happenings life e past)) (λ e. happenings life e (op ∷ past)) new.debounces
             (λ other h. ⊎_elim
-            (λ same. subst (λ x. and_then event (happening_of life event past op) (λ e. happenings life e past) x ≡ happenings life x (op ∷ past)) same
-            (and_then-own event (happening_of life event past op) (λ e. happenings life e past)))
-            (λ ne. and_then-other event other (happening_of life event past op) (λ e. happenings life e past) ne
+            (λ same. subst (λ x. and_happening event (happening_of life event past op) (λ e. happenings life e past) x ≡ happenings life x (op ∷ past)) same
+            (and_happening-own event (happening_of life event past op) (λ e. happenings life e past)))
+            (λ ne. and_happening-other event other (happening_of life event past op) (λ e. happenings life e past) ne
             ∙ ap (λ happening. with_happening happening (happenings life other past)) (sym (others other (λ d. ne (sym d)))))
             (cases_eq event other))
             taken.debounces_stand;

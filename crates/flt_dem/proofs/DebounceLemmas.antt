@@ -12,7 +12,7 @@ use Rattle.flt_model.specs.Start.{Start, count, event_of}
 use Rattle.flt_model.specs.Debounce.{Happening, Happenings, IsOfKind, debounced}
 use Rattle.flt_model.specs.declared.call.DebState.{DebState}
 use Rattle.flt_model.specs.declared.call.DebState.TheVariants.{Count}
-use Rattle.flt_dem.specs.Debounces.{DebouncesStand, AreOfKind, and_then}
+use Rattle.flt_dem.specs.Debounces.{DebouncesStand, AreOfKind, and_happening}
 use Rattle.flt_dem.specs.Events.{IsOfConfig}
 use Rattle.flt_dem.proofs.ReadLemmas.{refill-set}
 use Rattle.flt_model.proofs.Common.{slice_get-set_same, slice_get-set_other}
@@ -30,11 +30,11 @@ read_debounce life items event debounces within s =
 -- One more happening of one event.
 pub debounced_more : (life : Start) (event : ℕ) (happening : Happening) (items : ℕ → Happenings) (debounces : List DebState) (new : DebState) → event < count life →
     new ≡ debounced (event_of life event).debounce (happening ∷ items event) → DebouncesStand life items debounces →
-    DebouncesStand life (and_then event (Some happening) items) (slice_set debounces event new)
+    DebouncesStand life (and_happening event (Some happening) items) (slice_set debounces event new)
 debounced_more life event happening items debounces new within is s = record {
   one_each = length-set debounces event new ∙ s.one_each;
   each = λ other h. ⊎_elim
-      (λ same. subst (λ x. slice_get (slice_set debounces event new) x ≡ Some (debounced (event_of life x).debounce (and_then event (Some happening) items x))) same
+      (λ same. subst (λ x. slice_get (slice_set debounces event new) x ≡ Some (debounced (event_of life x).debounce (and_happening event (Some happening) items x))) same
       (slice_get-set_same debounces event new (omega (arith, s.one_each)) ∙ ap Some is
       ∙ ap (λ b. Some (debounced (event_of life event).debounce (cond b (happening ∷ items event) (items event)))) (sym (eq-eqb event event refl))))
       (λ ne. slice_get-set_other debounces event other new ne ∙ s.each other h

@@ -16,9 +16,9 @@ use Rattle.flt_model.specs.declared.call.Qualified.{Qualified}
 use Rattle.flt_model.specs.declared.call.Report.{Report}
 use Rattle.flt_dem.specs.Events.{EventsView}
 use Rattle.flt_dem.specs.Standing.{DurablePartStands}
-use Rattle.flt_dem.specs.Debounces.{DebouncesStand, and_then}
+use Rattle.flt_dem.specs.Debounces.{DebouncesStand, and_happening}
 use Rattle.flt_dem.specs.Calls.{StandsWith}
-use Rattle.flt_dem.proofs.CallLemmas.{debounces_same, and_then-own, and_then-other}
+use Rattle.flt_dem.proofs.CallLemmas.{debounces_same, and_happening-own, and_happening-other}
 
 -- Whether ticks count for an event, with the setting on, is whether the conditions are met that it needs.
 pub ticks_count : (life : Start) (past : History) (event : ℕ) (rules : EventCfg) (fulfilled : List Bool) (met : Bool) → is_setting_off past ≡ false →
@@ -29,10 +29,10 @@ ticks_count life past event rules fulfilled met on rules_are fulfilled_are is =
 
 -- The happening that a call is for an event decides its part.
 part_of : (life : Start) (past : History) (op : Op) (event : ℕ) (happening : Option Happening) (items : ℕ → Happenings) (marks : Trace) (events : EventsView) →
-    happening_of life event past op ≡ happening → DebouncesStand life (and_then event happening items) events.debounces → DurablePartStands life (with_marks life event past happening marks) events.durable →
-    StandsWith life (and_then event (happening_of life event past op) items) (event_part life past op event marks) events
+    happening_of life event past op ≡ happening → DebouncesStand life (and_happening event happening items) events.debounces → DurablePartStands life (with_marks life event past happening marks) events.durable →
+    StandsWith life (and_happening event (happening_of life event past op) items) (event_part life past op event marks) events
 part_of life past op event happening items marks events is d f = record {
-  debounces_stand = subst (λ h. DebouncesStand life (and_then event h items) events.debounces) (sym is) d;
+  debounces_stand = subst (λ h. DebouncesStand life (and_happening event h items) events.debounces) (sym is) d;
   durable_stands = subst (λ h. DurablePartStands life (with_marks life event past h marks) events.durable) (sym is) f;
 }
 
@@ -48,45 +48,45 @@ module _ (life : Start) (past : History) (event : ℕ) (items : ℕ → Happenin
 
   -- A call that is nothing for the event.
   part_of_none : (op : Op) → happening_of life event past op ≡ None → StandsWith life items marks events →
-      StandsWith life (and_then event (happening_of life event past op) items) (event_part life past op event marks) events
+      StandsWith life (and_happening event (happening_of life event past op) items) (event_part life past op event marks) events
   part_of_none op is s =
       part_of life past op event None items marks events is
-      (debounces_same life items (and_then event None items) events.debounces (λ other h.
-      ⊎_elim (λ same. subst (λ x. items x ≡ and_then event None items x) same (sym (and_then-own event None items)))
-      (λ apart. sym (and_then-other event other None items apart)) (cases_eq event other)) s.debounces_stand)
+      (debounces_same life items (and_happening event None items) events.debounces (λ other h.
+      ⊎_elim (λ same. subst (λ x. items x ≡ and_happening event None items x) same (sym (and_happening-own event None items)))
+      (λ apart. sym (and_happening-other event other None items apart)) (cases_eq event other)) s.debounces_stand)
       s.durable_stands
 
   pub part_of_ticks : (ticks : ℕ) (signals : List ℕ) (outcome : Option Qualified) → counts_ticks life event past ≡ true → signals ≡ signals_after past →
-      outcome ≡ qualified (event_of life event).debounce (items event) (Ticked ticks) → DebouncesStand life (and_then event (Some (Ticked ticks)) items) events.debounces →
+      outcome ≡ qualified (event_of life event).debounce (items event) (Ticked ticks) → DebouncesStand life (and_happening event (Some (Ticked ticks)) items) events.debounces →
       DurablePartStands life (with_result life signals event outcome marks) events.durable →
-      StandsWith life (and_then event (happening_of life event past (ops.Tick ticks)) items) (event_part life past (ops.Tick ticks) event marks) events
+      StandsWith life (and_happening event (happening_of life event past (ops.Tick ticks)) items) (event_part life past (ops.Tick ticks) event marks) events
   part_of_ticks ticks signals outcome counts signals_are outcome_is d f =
       let is : happening_of life event past (ops.Tick ticks) ≡ Some (Ticked ticks) = ap (λ b. cond b (Some (Ticked ticks)) None) counts in
       part_of life past (ops.Tick ticks) event (Some (Ticked ticks)) items marks events is d (result_is (Ticked ticks) signals outcome signals_are outcome_is f)
 
   pub part_of_no_ticks : (ticks : ℕ) → counts_ticks life event past ≡ false → StandsWith life items marks events →
-      StandsWith life (and_then event (happening_of life event past (ops.Tick ticks)) items) (event_part life past (ops.Tick ticks) event marks) events
+      StandsWith life (and_happening event (happening_of life event past (ops.Tick ticks)) items) (event_part life past (ops.Tick ticks) event marks) events
   part_of_no_ticks ticks counts s = part_of_none (ops.Tick ticks) (ap (λ b. cond b (Some (Ticked ticks)) None) counts) s
 
   pub part_of_report : (report : Report) (signals : List ℕ) (outcome : Option Qualified) → counts_report life event past ≡ true → signals ≡ signals_after past →
-      outcome ≡ qualified (event_of life event).debounce (items event) (Reported report) → DebouncesStand life (and_then event (Some (Reported report)) items) events.debounces →
+      outcome ≡ qualified (event_of life event).debounce (items event) (Reported report) → DebouncesStand life (and_happening event (Some (Reported report)) items) events.debounces →
       DurablePartStands life (with_result life signals event outcome marks) events.durable →
-      StandsWith life (and_then event (happening_of life event past (ops.Report event report)) items) (event_part life past (ops.Report event report) event marks) events
+      StandsWith life (and_happening event (happening_of life event past (ops.Report event report)) items) (event_part life past (ops.Report event report) event marks) events
   part_of_report report signals outcome counts signals_are outcome_is d f =
       let is : happening_of life event past (ops.Report event report) ≡ Some (Reported report) =
       ap (λ b. reported_where (own_report life event past b) (Reported report)) (eq-eqb event event refl)
       ∙ ap (λ b. reported_where (Some b) (Reported report)) counts in
       part_of life past (ops.Report event report) event (Some (Reported report)) items marks events is d (result_is (Reported report) signals outcome signals_are outcome_is f)
 
-  pub part_of_own_cycle : (cycle : ℕ) → (event_of life event).cycle ≡ cycle → DebouncesStand life (and_then event (Some Ended) items) events.debounces →
+  pub part_of_own_cycle : (cycle : ℕ) → (event_of life event).cycle ≡ cycle → DebouncesStand life (and_happening event (Some Ended) items) events.debounces →
       DurablePartStands life (with_cycle life (signals_after past) event marks) events.durable →
-      StandsWith life (and_then event (happening_of life event past (ops.Cycle cycle)) items) (event_part life past (ops.Cycle cycle) event marks) events
+      StandsWith life (and_happening event (happening_of life event past (ops.Cycle cycle)) items) (event_part life past (ops.Cycle cycle) event marks) events
   part_of_own_cycle cycle same d f =
       let is : happening_of life event past (ops.Cycle cycle) ≡ Some Ended = ap (λ b. cond b (Some Ended) None) (eq-eqb cycle (event_of life event).cycle (sym same)) in
       part_of life past (ops.Cycle cycle) event (Some Ended) items marks events is d f
 
   pub part_of_other_cycle : (cycle : ℕ) → (event_of life event).cycle ≢ cycle → StandsWith life items marks events →
-      StandsWith life (and_then event (happening_of life event past (ops.Cycle cycle)) items) (event_part life past (ops.Cycle cycle) event marks) events
+      StandsWith life (and_happening event (happening_of life event past (ops.Cycle cycle)) items) (event_part life past (ops.Cycle cycle) event marks) events
   part_of_other_cycle cycle ne s =
       part_of_none (ops.Cycle cycle) (ap (λ b. cond b (Some Ended) None) (ne_eqb cycle (event_of life event).cycle (λ d. ne (sym d)))) s
 
@@ -107,9 +107,9 @@ ignored_report life past event other report ignored =
 
 -- A clear of a DTC that reaches the event.
 pub part_of_clear : (life : Start) (past : History) (event tester dtc : ℕ) (bytes : ArrayVec ℕ) (items : ℕ → Happenings) (marks : Trace) (events : EventsView) →
-    cleared_dtc (ops.Request tester bytes) ≡ Some dtc → reaches life event dtc ≡ true → DebouncesStand life (and_then event (Some Cleared) items) events.debounces →
+    cleared_dtc (ops.Request tester bytes) ≡ Some dtc → reaches life event dtc ≡ true → DebouncesStand life (and_happening event (Some Cleared) items) events.debounces →
     DurablePartStands life (Of event Clear (signals_after past) ∷ marks) events.durable →
-    StandsWith life (and_then event (happening_of life event past (ops.Request tester bytes)) items) (event_part life past (ops.Request tester bytes) event marks) events
+    StandsWith life (and_happening event (happening_of life event past (ops.Request tester bytes)) items) (event_part life past (ops.Request tester bytes) event marks) events
 part_of_clear life past event tester dtc bytes items marks events clears reached d f =
     let is : happening_of life event past (ops.Request tester bytes) ≡ Some Cleared =
     ap (λ c. happening_of_clear life event c) clears ∙ ap (λ b. cleared_where b) reached in

@@ -13,7 +13,7 @@ use Rattle.flt_model.specs.Trace.{trace}
 use Rattle.flt_model.specs.Answer.{event_view, view}
 use Rattle.flt_model.specs.declared.call.DebState.TheVariants.{Idle}
 use Rattle.flt_dem.specs.Manager.{Manager, StandsFor}
-use Rattle.flt_dem.specs.View.{rules_of, counter_of, event_seen, noted_at, view_of}
+use Rattle.flt_dem.specs.View.{rules_of, detection_counter_of, event_seen, noted_at, manager_view}
 use Rattle.flt_dem.proofs.SavedLemmas.{entry_found}
 
 -- What is read of a list at a place within it, whatever stands past its end.
@@ -47,10 +47,10 @@ module _ (life : Start) (past : History) (manager : Manager) (s : StandsFor life
         counter = detection_counter (rules i).debounce (debouncing i);
       }
 
-  pub counter_told : (event : ℕ) → event < count life → counter_of manager event ≡ (event_view life past (trace life past) event).counter
+  pub counter_told : (event : ℕ) → event < count life → detection_counter_of manager event ≡ (event_view life past (trace life past) event).counter
   counter_told event within = ap (λ view. view.counter) (seen event within)
 
-  pub view_told : view_of manager ≡ view life past (trace life past)
+  pub view_told : manager_view manager ≡ view life past (trace life past)
   view_told =
       let durable = s.events.durable_stands in
       let events = ap (λ k. map (event_seen manager) (below (length k.events.items))) (sym durable.config)

@@ -13,7 +13,7 @@ use Rattle.flt_model.specs.declared.call.Report.{Report}
 use Rattle.flt_memory.specs.Memory.{Memory}
 use Rattle.flt_dem.specs.DurablePart.{without_entry}
 use Rattle.flt_dem.specs.Standing.{DurablePartStands}
-use Rattle.flt_dem.specs.Debounces.{DebouncesStand, and_then}
+use Rattle.flt_dem.specs.Debounces.{DebouncesStand, and_happening}
 use Rattle.flt_dem.specs.Events.{EventsView, holding}
 
 -- Events with these happenings, and these marks of all.
@@ -40,7 +40,7 @@ module _ (life : Start) (past : History) (op : Op) (done : ℕ) where
 abbrev pub TakesPart : Start → History → Op → ℕ → EventsView → EventsView → Type 0
 TakesPart life past op event old new =
     (items : ℕ → Happenings) (marks : Trace) → items event ≡ happenings life event past → StandsWith life items marks old →
-    StandsWith life (and_then event (happening_of life event past op) items) (event_part life past op event marks) new
+    StandsWith life (and_happening event (happening_of life event past op) items) (event_part life past op event marks) new
 
 -- ---- What each kind of call makes of the events, in words for contracts.
 

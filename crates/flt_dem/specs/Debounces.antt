@@ -12,8 +12,8 @@ pub record DebouncesStand (life : Start) (items : ℕ → Happenings) (debounces
   pub each : (event : ℕ) → event < count life → slice_get debounces event ≡ Some (debounced (event_of life event).debounce (items event))
 
 -- One more happening of one event, if there is one.
-abbrev pub and_then : ℕ → Option Happening → (ℕ → Happenings) → ℕ → Happenings
-and_then event happening items other = if event == other then with_happening happening (items other) else items other
+abbrev pub and_happening : ℕ → Option Happening → (ℕ → Happenings) → ℕ → Happenings
+and_happening event happening items other = if event == other then with_happening happening (items other) else items other
 
 -- Each debouncing is of its event's kind, within its thresholds.
 abbrev pub AreOfKind : List EventCfg → List DebState → Type 0

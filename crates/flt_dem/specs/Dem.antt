@@ -7,13 +7,13 @@ use Rattle.flt_dem.specs.declared.dem.Dem.{Dem}
 use Rattle.flt_dem.specs.Manager.{Manager}
 
 -- The manager without its table.
-abbrev pub state_of : {F : _} {g : _} → Dem F g → Manager
-state_of dem = dem.state
+abbrev pub manager_of : {F : _} {g : _} → Dem F g → Manager
+manager_of dem = dem.state
 
 -- Its configuration.
-abbrev pub config_of : {F : _} {g : _} → Dem F g → Config
-config_of dem = dem.state.durable.config
+abbrev pub manager_config : {F : _} {g : _} → Dem F g → Config
+manager_config dem = dem.state.durable.config
 
 -- The data identifiers of its table.
-abbrev pub table_of : {F : _} {g : _} → Dem F g → List DidUse
-table_of dem = dids_of dem.dids
+abbrev pub manager_table : {F : _} {g : _} → Dem F g → List DidUse
+manager_table dem = dids_of dem.dids

@@ -18,7 +18,7 @@ use Rattle.flt_memory.specs.declared.memory.Stored.{Stored}
 use Rattle.flt_dem.specs.Standing.{StatesStand, MemoryStands, with_outcome}
 use Rattle.flt_model.specs.Answer.{view}
 use Rattle.flt_dem.specs.Manager.{Manager, StandsFor}
-use Rattle.flt_dem.specs.View.{view_of}
+use Rattle.flt_dem.specs.View.{manager_view}
 
 -- An event is stored behind its failure.
 pub record Storing (life : Start) (event : ℕ) (signals : List ℕ) (before : Trace) (states : List EventState) (old new : Memory) (outcome : Stored) : Type 0 where
@@ -67,4 +67,4 @@ SettingIsOnWithoutRequests = (past : History) → HasNoRequest past → is_setti
 
 -- What a tester may read is what the calls so far make of it.
 abbrev pub ViewIsTold : Type 0
-ViewIsTold = (life : Start) (past : History) (manager : Manager) → StandsFor life past manager → view_of manager ≡ view life past (trace life past)
+ViewIsTold = (life : Start) (past : History) (manager : Manager) → StandsFor life past manager → manager_view manager ≡ view life past (trace life past)

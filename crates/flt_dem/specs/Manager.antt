@@ -76,8 +76,8 @@ KeepsOtherCycles config cycle old new = (event : ℕ) → IsOfOtherCycle config 
 -- ---- What a call makes of a manager, in words for contracts.
 
 -- It stands before the call, and stands with the call more after.
-abbrev pub Takes : Op → Manager → Manager → Type 0
-Takes op old new = (life : Start) (past : History) → StandsFor life past old → StandsFor life (op ∷ past) new
+abbrev pub ManagerTakes : Op → Manager → Manager → Type 0
+ManagerTakes op old new = (life : Start) (past : History) → StandsFor life past old → StandsFor life (op ∷ past) new
 
 -- It does where the first tells whether the setting is on.
 abbrev pub TakesUnder : Bool → Op → Manager → Manager → Type 0
@@ -95,8 +95,8 @@ abbrev pub IsValueOf : {A : Type 0} → (Start → History → A) → Manager �
 IsValueOf told manager value = (life : Start) (past : History) → StandsFor life past manager → value ≡ told life past
 
 -- The reply is the answer to the call.
-abbrev pub Answers : Op → Manager → Reply → Type 0
-Answers op manager reply = (life : Start) (past : History) → StandsFor life past manager → reply ≡ answer life past op
+abbrev pub ManagerAnswers : Op → Manager → Reply → Type 0
+ManagerAnswers op manager reply = (life : Start) (past : History) → StandsFor life past manager → reply ≡ answer life past op
 
 -- It is where the first tells whether the setting is on.
 abbrev pub AnswersUnder : Bool → Op → Manager → Reply → Type 0

@@ -15,8 +15,8 @@ abbrev pub rules_of : Manager → ℕ → EventCfg
 rules_of manager event = unwrap_or (slice_get manager.durable.config.events.items event) no_event
 
 -- The fault detection counter of an event.
-abbrev pub counter_of : Manager → ℕ → ℤ
-counter_of manager event = detection_counter (rules_of manager event).debounce (unwrap_or (slice_get manager.debounces event) Idle)
+abbrev pub detection_counter_of : Manager → ℕ → ℤ
+detection_counter_of manager event = detection_counter (rules_of manager event).debounce (unwrap_or (slice_get manager.debounces event) Idle)
 
 -- An event with its state, entry and fault detection counter.
 abbrev pub event_seen : Manager → ℕ → EventView
@@ -25,7 +25,7 @@ event_seen manager event = record {
   dids = (rules_of manager event).dids.items;
   state = unwrap_or (slice_get manager.durable.states event) start_state;
   entry = find (is_of_event event) manager.durable.memory.entries;
-  counter = counter_of manager event;
+  counter = detection_counter_of manager event;
 }
 
 -- The noted event that a sub-function reads.
@@ -37,8 +37,8 @@ noted_at notes sub =
     else notes.recent_confirmed
 
 -- All events in order of number, and which of them are noted.
-abbrev pub view_of : Manager → View
-view_of manager = record {
+abbrev pub manager_view : Manager → View
+manager_view manager = record {
   events = map (event_seen manager) (below (length manager.durable.config.events.items));
   noted = noted_at manager.durable.notes;
 }

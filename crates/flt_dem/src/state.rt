@@ -11,10 +11,10 @@ ghost use Rattle.flt_model.specs.declared.call.Op.TheVariants as ops;
 ghost use Rattle.flt_model.specs.declared.call.ReplyOf.TheVariants as replies;
 ghost use Rattle.flt_did.specs.Table.{dids_of};
 ghost use Rattle.flt_did.specs.Serves.{Serves};
-ghost use Rattle.flt_dem.specs.View.{counter_of};
+ghost use Rattle.flt_dem.specs.View.{detection_counter_of};
 ghost use Rattle.flt_dem.specs.DurablePart.{KeepsOthers};
 ghost use Rattle.flt_dem.specs.Manager.{StandsFor, KeepsEvent, IsOfOtherCycle, readiness_at};
-ghost use Rattle.flt_dem.specs.Manager.{Takes, TakesUnder, TakesClear, IsValueOf, Answers, AnswersUnder, LeavesOthers, states_after, entry_after, noted_after};
+ghost use Rattle.flt_dem.specs.Manager.{ManagerTakes, TakesUnder, TakesClear, IsValueOf, ManagerAnswers, AnswersUnder, LeavesOthers, states_after, entry_after, noted_after};
 
 use crate::conditions::Conditions;
 use crate::events::Events;
@@ -78,7 +78,7 @@ impl DemState {
     /// Writes the durable state: what is to be saved. That changes nothing.
     pub fn persist(&self, out: &mut Persist)
         ensures saved { IsValueOf saved_after self.now out.new }
-        ensures stands { Takes ops.Snapshot self.now self.now }
+        ensures stands { ManagerTakes ops.Snapshot self.now self.now }
     {
         self.events.durable().persist(out);
     }
@@ -95,7 +95,7 @@ impl DemState {
     pub fn signal(&mut self, index: u8, value: u16)
         requires { index < 8 }
         ensures value { self.new ≡ record self.old { signals = slice_set self.old.signals index value } }
-        ensures stands { Takes (ops.Signal index value) self.old self.new }
+        ensures stands { ManagerTakes (ops.Signal index value) self.old self.new }
     {
         self.signals.set(index, value);
     }
@@ -104,7 +104,7 @@ impl DemState {
     pub fn enable(&mut self, condition: u8, fulfilled: bool)
         requires { condition < 8 }
         ensures value { self.new ≡ record self.old { conditions = slice_set self.old.conditions condition fulfilled } }
-        ensures stands { Takes (ops.Enable condition fulfilled) self.old self.new }
+        ensures stands { ManagerTakes (ops.Enable condition fulfilled) self.old self.new }
     {
         self.conditions.set(condition, fulfilled);
     }
@@ -176,7 +176,7 @@ impl DemState {
     pub fn cycle(&mut self, cycle: u8)
         requires { cycle < 4 }
         ensures config { self.new.durable.config ≡ self.old.durable.config }
-        ensures stands { Takes (ops.Cycle cycle) self.old self.new }
+        ensures stands { ManagerTakes (ops.Cycle cycle) self.old self.new }
         ensures others { (event : ℕ) → IsOfOtherCycle self.old.durable.config cycle event → KeepsEvent event self.old self.new }
     {
         self.events.end_cycle(cycle);
@@ -232,7 +232,7 @@ impl DemState {
     /// The fault detection counter of an event, from -128 (passed) to 127 (failed).
     pub fn detection_counter(&self, event: u16) -> i8
         requires { event < length self.now.durable.config.events.items }
-        ensures { result ≡ counter_of self.now event }
+        ensures { result ≡ detection_counter_of self.now event }
     {
         self.events.detection_counter(event)
     }
@@ -240,8 +240,8 @@ impl DemState {
     /// What is shown of an event. To show it changes nothing.
     pub fn show(&self, event: u16) -> Shown
         requires { event < length self.now.durable.config.events.items }
-        ensures answer { Answers (ops.Show event) self.now (replies.Shown result) }
-        ensures stands { Takes (ops.Show event) self.now self.now }
+        ensures answer { ManagerAnswers (ops.Show event) self.now (replies.Shown result) }
+        ensures stands { ManagerTakes (ops.Show event) self.now self.now }
     {
         let durable = self.events.durable();
         let state = durable.state(event);

@@ -7,7 +7,7 @@ use Rattle.flt_code.specs.Seal.{sealed}
 use Rattle.flt_ea.specs.Gate.{gate_bytes, gate_of}
 use Rattle.flt_ea.specs.Image.{value_in, next_place, next_sequence}
 use Rattle.flt_ea.specs.State.{in_units}
-use Rattle.flt_ea.specs.Examples.{has_none, piece, torn, place, empty, gates, damage, no_gate, spoiled}
+use Rattle.flt_ea.specs.Examples.{has_none, plain_unit, torn_unit, place, empty, gates, damage, no_gate, spoiled_unit}
 use Rattle.flt_ea.specs.declared.gate.Gate.{Gate}
 use Rattle.flt_ea.specs.declared.place.Held.{Held}
 
@@ -69,8 +69,8 @@ pub record GatesInBytes : Type 0 where
 -- ---- what places hold
 
 -- The unit of a gate of one byte.
-abbrev pub written : ℕ → ℕ → List ℕ
-written block sequence = sealed (0x45 ∷ 0x01 ∷ 0x00 ∷ block ∷ 0x00 ∷ 0x01 ∷ 0x00 ∷ 0x00 ∷ 0x00 ∷ sequence ∷ replicate 6 0x00)
+abbrev pub written_unit : ℕ → ℕ → List ℕ
+written_unit block sequence = sealed (0x45 ∷ 0x01 ∷ 0x00 ∷ block ∷ 0x00 ∷ 0x01 ∷ 0x00 ∷ 0x00 ∷ 0x00 ∷ sequence ∷ replicate 6 0x00)
 
 -- Four units of bytes, all of which the first place of block 9 needs.
 abbrev pub four_pieces : List ℕ
@@ -79,7 +79,7 @@ four_pieces = replicate 32 1 ++ replicate 32 2 ++ replicate 32 3 ++ replicate 32
 -- Place 0 of block 8 is newer than its place 1, and block 9 has 128 bytes.
 abbrev pub two_blocks : List (List (List ℕ))
 two_blocks =
-    (place (written 8 3) (piece (33 ∷ []) ∷ []) ++ place (written 8 2) (piece (22 ∷ []) ∷ [])
+    (place (written_unit 8 3) (plain_unit (33 ∷ []) ∷ []) ++ place (written_unit 8 2) (plain_unit (22 ∷ []) ∷ [])
     ++ place (sealed (0x45 ∷ 0x01 ∷ 0x00 ∷ 0x09 ∷ 0x00 ∷ 0x80 ∷ 0x00 ∷ 0x00 ∷ 0x00 ∷ 0x01 ∷ replicate 6 0x00))
     (replicate 32 1 ∷ replicate 32 2 ∷ replicate 32 3 ∷ replicate 32 4 ∷ [])
     ++ empty) ∷ []
@@ -94,21 +94,21 @@ PlacesHold = map (value_in (8 ∷ 9 ∷ []) two_blocks) (8 ∷ 9 ∷ []) ≡ byt
 -- either place. Each is told by the place and the position of its block. A newer place 0 is no damage.
 pub record DamageOfPlaces : Type 0 where
   pub second_place : map damage
-      (gates (written 8 1) (written 9 2) spoiled spoiled
-      ∷ gates (written 8 1) no_gate spoiled spoiled
-      ∷ gates torn no_gate spoiled spoiled
-      ∷ gates (written 8 1) (written 8 2) (written 9 1) (written 8 2)
-      ∷ gates (written 8 1) (written 8 2) torn no_gate
+      (gates (written_unit 8 1) (written_unit 9 2) spoiled_unit spoiled_unit
+      ∷ gates (written_unit 8 1) no_gate spoiled_unit spoiled_unit
+      ∷ gates torn_unit no_gate spoiled_unit spoiled_unit
+      ∷ gates (written_unit 8 1) (written_unit 8 2) (written_unit 9 1) (written_unit 8 2)
+      ∷ gates (written_unit 8 1) (written_unit 8 2) torn_unit no_gate
       ∷ [])
       ≡ Some (1, 0) ∷ Some (1, 0) ∷ Some (1, 0) ∷ Some (1, 1) ∷ Some (1, 1) ∷ []
   pub number_zero : map damage
-      (gates (written 8 0) spoiled spoiled spoiled
-      ∷ gates (written 8 1) (written 8 0) spoiled spoiled
-      ∷ gates torn torn (written 9 0) spoiled
-      ∷ gates torn torn (written 9 1) (written 9 0)
+      (gates (written_unit 8 0) spoiled_unit spoiled_unit spoiled_unit
+      ∷ gates (written_unit 8 1) (written_unit 8 0) spoiled_unit spoiled_unit
+      ∷ gates torn_unit torn_unit (written_unit 9 0) spoiled_unit
+      ∷ gates torn_unit torn_unit (written_unit 9 1) (written_unit 9 0)
       ∷ [])
       ≡ Some (0, 0) ∷ Some (1, 0) ∷ Some (0, 1) ∷ Some (1, 1) ∷ []
-  pub none : damage (gates (written 8 2) (written 8 1) (written 9 1) (written 9 2)) ≡ None
+  pub none : damage (gates (written_unit 8 2) (written_unit 8 1) (written_unit 9 1) (written_unit 9 2)) ≡ None
 
 -- ---- the units that arms mute
 

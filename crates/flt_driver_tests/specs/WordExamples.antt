@@ -25,8 +25,8 @@ words_in_bytes =
     ∷ []
 
 -- A tag, a kind, the bytes of three numbers, and zeros.
-abbrev pub three_numbers : ℕ → ℕ → ℕ → ℕ → ℕ → List ℕ
-three_numbers tag kind first second third = tag ∷ kind ∷ 0x00 ∷ first ∷ 0x00 ∷ second ∷ 0x00 ∷ third ∷ replicate 8 0x00
+abbrev pub tag_and_numbers : ℕ → ℕ → ℕ → ℕ → ℕ → List ℕ
+tag_and_numbers tag kind first second third = tag ∷ kind ∷ 0x00 ∷ first ∷ 0x00 ∷ second ∷ 0x00 ∷ third ∷ replicate 8 0x00
 
 -- Each word has these bytes and is read of them alone. Those of another kind are no words, nor are heads whose length is not of their kind, a tag
 -- of no word, and numbers that are not followed by zeros.
@@ -34,15 +34,15 @@ pub record EachWord : Type 0 where
   pub written : map word_bytes words ≡ words_in_bytes
   pub read : map word_of words_in_bytes ≡ map Some words
   pub refused : map word_of
-      (three_numbers 0x53 0x02 0 1 9
-      ∷ three_numbers 0x41 0x02 0 1 0
-      ∷ three_numbers 0x48 0x03 8 0 2
-      ∷ three_numbers 0x48 0x00 8 0 2
-      ∷ three_numbers 0x48 0x01 8 0 2
-      ∷ three_numbers 0x48 0x01 8 129 2
-      ∷ three_numbers 0x48 0x02 8 1 2
-      ∷ three_numbers 0x47 0x02 8 2 0
-      ∷ three_numbers 0x47 0x01 8 2 1
-      ∷ three_numbers 0x45 0x01 8 1 1
+      (tag_and_numbers 0x53 0x02 0 1 9
+      ∷ tag_and_numbers 0x41 0x02 0 1 0
+      ∷ tag_and_numbers 0x48 0x03 8 0 2
+      ∷ tag_and_numbers 0x48 0x00 8 0 2
+      ∷ tag_and_numbers 0x48 0x01 8 0 2
+      ∷ tag_and_numbers 0x48 0x01 8 129 2
+      ∷ tag_and_numbers 0x48 0x02 8 1 2
+      ∷ tag_and_numbers 0x47 0x02 8 2 0
+      ∷ tag_and_numbers 0x47 0x01 8 2 1
+      ∷ tag_and_numbers 0x45 0x01 8 1 1
       ∷ [])
       ≡ replicate 10 None

@@ -15,13 +15,13 @@ use Rattle.flt_restore.specs.declared.fault.StartFault.{StartFault}
 use Rattle.flt_restore.specs.declared.fault.StartFault.TheVariants.{Flash, Damaged, OtherConfig, SequenceSpent}
 use Rattle.flt_store_model.specs.Image.{image_blocks, image_damage, image_held}
 use Rattle.flt_store_model.specs.Whole.{unless_damaged}
-use Rattle.flt_dump.specs.Held.{number_of, number_told}
+use Rattle.flt_dump.specs.Held.{copy_generation, number_told}
 
 -- The pages are at fault.
 pub told_damage : (c : Config) (image : List (List (List ℕ))) (sector page : ℕ) → image_damage c image ≡ Some (sector, page) → Err (Damaged (Page sector page)) ≡ number_told c (image_held c image)
 told_damage c image sector page at = sym (ap (λ (damage : Option (ℕ × ℕ)). number_told c (unless_damaged damage (held c (image_blocks c image)))) at)
 
-number_is : (c : Config) (found : Option CommitCopy) (state : Persist) → Ok (number_of found) ≡ number_told c (Ok (generation found state))
+number_is : (c : Config) (found : Option CommitCopy) (state : Persist) → Ok (copy_generation found) ≡ number_told c (Ok (generation found state))
 number_is c None state = refl
 number_is c (Some found) state = refl
 
@@ -36,7 +36,7 @@ module _ (c : Config) (image : List (List (List ℕ))) (before after : BlocksSta
   judged_is judged = ⊎_elim (λ by_first. held_is ∙ by_first) (λ by_second. absurd (few by_second.2))
 
   -- A generation is held.
-  told_found : (found : Option CommitCopy) (state : Persist) → IsRestored c before after found state → Ok (number_of found) ≡ number_told c (image_held c image)
+  told_found : (found : Option CommitCopy) (state : Persist) → IsRestored c before after found state → Ok (copy_generation found) ≡ number_told c (image_held c image)
   told_found found state = ⊎_elim
       (λ by_first. number_is c found state ∙ sym (ap (number_told c) (held_is ∙ by_first.0)))
       (λ by_second. absurd (few by_second.3))
@@ -51,7 +51,7 @@ module _ (c : Config) (image : List (List (List ℕ))) (before after : BlocksSta
 
   -- What was judged is told, with the number of what was found.
   pub told_judged : (judged : Result Restored StartFault) (told : Result ℕ StartFault) (state : Persist) (Counts : Restored → ℕ → Type 0)
-      → ((found : Restored) (number : ℕ) → Counts found number → number ≡ number_of found.commit)
+      → ((found : Restored) (number : ℕ) → Counts found number → number ≡ copy_generation found.commit)
       → MatchResult judged (λ found. IsOkAnd told (Counts found)) (λ fault. told ≡ Err fault)
       → IfOk judged (λ found. IsRestored c before after found.commit state)
       → ((fault : StartFault) → judged ≡ Err fault → Refuses c before after fault) → ¬ IsErrOf judged SequenceSpent → told ≡ number_told c (image_held c image)

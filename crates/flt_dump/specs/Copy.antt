@@ -13,5 +13,5 @@ quiet_state flash = record flash {
 }
 
 -- The copy as every user of a flash sees it.
-abbrev pub state_of : ImageCopy → FlashState
-state_of copy = quiet_state (memory.state_of copy.flash)
+abbrev pub copy_state : ImageCopy → FlashState
+copy_state copy = quiet_state (memory.flash_state copy.flash)

@@ -21,10 +21,10 @@ pub record DumpContent : Type 0 where
 
 -- Why bytes are no dump: by the lines before the image, since a step stands there or a life ends, or by the first line of the pages that
 -- is wrong, missing or too many.
-pub data Fault : Type 0 where
-  no_script : ScriptFault → Fault
-  begun : Fault
-  no_page : ℕ → Fault
+pub data DumpRefusal : Type 0 where
+  no_script : ScriptFault → DumpRefusal
+  begun : DumpRefusal
+  no_page : ℕ → DumpRefusal
 
 -- The line before the pages.
 abbrev pub is_image : List ℕ → Bool
@@ -39,8 +39,8 @@ unfoldable pub first_lines : ℕ → List ℕ → List ℕ
 first_lines count bytes = flat_map (λ part. part ++ 10 ∷ []) (take count (slice_split (λ b. b == 10) bytes))
 
 -- The page that a line of 64 hexadecimal digits spells, in either case.
-abbrev pub page_in : List ℕ → Option (List ℕ)
-page_in line = result_ok (decode_sized line 32)
+abbrev pub page_spelled : List ℕ → Option (List ℕ)
+page_spelled line = result_ok (decode_sized line 32)
 
 -- A page before the others, where there is one.
 abbrev pub with_page : ℕ → Option (List ℕ) → Result (List (List ℕ)) ℕ → Result (List (List ℕ)) ℕ
@@ -49,11 +49,11 @@ with_page number (Some page) (Ok pages) = Ok (page ∷ pages)
 with_page number (Some page) (Err wrong) = Err wrong
 
 -- The pages that so many lines spell, from the line of this number on, and no more of them; or the number of the first that is wrong.
-unfoldable pub pages_in : ℕ → ℕ → List (List ℕ) → Result (List (List ℕ)) ℕ
-pages_in number zero [] = Ok []
-pages_in number zero (line ∷ lines) = Err number
-pages_in number (suc left) [] = Err number
-pages_in number (suc left) (line ∷ lines) = with_page number (page_in line) (pages_in (number + 1) left lines)
+unfoldable pub pages_spelled : ℕ → ℕ → List (List ℕ) → Result (List (List ℕ)) ℕ
+pages_spelled number zero [] = Ok []
+pages_spelled number zero (line ∷ lines) = Err number
+pages_spelled number (suc left) [] = Err number
+pages_spelled number (suc left) (line ∷ lines) = with_page number (page_spelled line) (pages_spelled (number + 1) left lines)
 
 -- A step by itself, or a block of which a lane has a step.
 abbrev pub has_step : PartOf Step → Bool
@@ -61,25 +61,25 @@ has_step (inl step) = true
 has_step (inr lanes) = list_any (λ lane. nat_lt 0 (length lane)) lanes
 
 -- A step, or the end of a life, stands in the script.
-abbrev pub has_begun : ScriptContent → Bool
-has_begun script = nat_lt 1 (length script.lives) || list_any (λ parts. list_any has_step parts) script.lives
+abbrev pub has_begun_life : ScriptContent → Bool
+has_begun_life script = nat_lt 1 (length script.lives) || list_any (λ parts. list_any has_step parts) script.lives
 
 -- The image of these pages, those of sector 0 first.
-abbrev pub dump_by : Config → Result (List (List ℕ)) ℕ → Result DumpContent Fault
+abbrev pub dump_by : Config → Result (List (List ℕ)) ℕ → Result DumpContent DumpRefusal
 dump_by c (Ok pages) = Ok (record { config = c; image = take c.pages pages ∷ drop c.pages pages ∷ [] })
 dump_by c (Err number) = Err (no_page number)
 
 -- The dump of a configuration and the lines behind line `image`, of which the first has this number.
-abbrev pub dump_behind : ℕ → List (List ℕ) → Result ScriptContent ScriptFault → Result DumpContent Fault
+abbrev pub dump_behind : ℕ → List (List ℕ) → Result ScriptContent ScriptFault → Result DumpContent DumpRefusal
 dump_behind number lines (Err fault) = Err (no_script fault)
 dump_behind number lines (Ok content) =
-    if has_begun content then Err begun else dump_by content.config (pages_in number (2 * content.config.pages) lines)
+    if has_begun_life content then Err begun else dump_by content.config (pages_spelled number (2 * content.config.pages) lines)
 
 -- The dump by where its line `image` stands. Where there is none the first line is told.
-abbrev pub dump_at : List DidUse → List ℕ → Option ℕ → Result DumpContent Fault
+abbrev pub dump_at : List DidUse → List ℕ → Option ℕ → Result DumpContent DumpRefusal
 dump_at dids bytes None = Err (no_script (record { line = 1; cause = Form }))
 dump_at dids bytes (Some before) = dump_behind (before + 2) (drop (before + 1) (lines_of bytes)) (script_of dids (first_lines before bytes))
 
 -- The dump that these bytes are, with these data identifiers in the table, or the first fault of one that they are not.
-abbrev pub dump_of : List DidUse → List ℕ → Result DumpContent Fault
+abbrev pub dump_of : List DidUse → List ℕ → Result DumpContent DumpRefusal
 dump_of dids bytes = dump_at dids bytes (image_at bytes)

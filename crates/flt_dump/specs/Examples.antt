@@ -2,7 +2,7 @@
 use Rattle.std.specs.Prelude.{◌≡◌, ℕ, List, [], ◌∷◌, ◌++◌, replicate, codes, Ok, Err}
 use Rattle.flt_sector_model.specs.Example.{image_of, sector_of, torn, valid_sector}
 use Rattle.flt_sector_model.specs.Examples.{blocks, every_image}
-use Rattle.flt_dump.specs.Dump.{pages_in}
+use Rattle.flt_dump.specs.Dump.{pages_spelled}
 use Rattle.flt_dump.specs.Listing.{listing_text}
 
 abbrev pub line : List ℕ → List ℕ
@@ -28,7 +28,7 @@ abbrev pub page : List ℕ
 page = replicate 64 102
 
 pub record TellsWrongLines : Type 0 where
-  pub two : pages_in 3 2 (page ∷ page ∷ []) ≡ Ok (replicate 32 255 ∷ replicate 32 255 ∷ [])
-  pub missing : pages_in 3 2 (page ∷ []) ≡ Err 4
-  pub wrong : pages_in 3 2 (codes "image" ∷ page ∷ []) ≡ Err 3
-  pub many : pages_in 3 2 (page ∷ page ∷ page ∷ []) ≡ Err 5
+  pub two : pages_spelled 3 2 (page ∷ page ∷ []) ≡ Ok (replicate 32 255 ∷ replicate 32 255 ∷ [])
+  pub missing : pages_spelled 3 2 (page ∷ []) ≡ Err 4
+  pub wrong : pages_spelled 3 2 (codes "image" ∷ page ∷ []) ≡ Err 3
+  pub many : pages_spelled 3 2 (page ∷ page ∷ page ∷ []) ≡ Err 5

@@ -17,9 +17,9 @@ number_told c (Ok g) = Ok g.number
 number_told c (Err fault) = Err (told_as c fault)
 
 -- The number of the generation of a commit that was read, 0 where there is none.
-abbrev pub number_of : Option CommitCopy → ℕ
-number_of None = 0
-number_of (Some found) = found.commit.generation
+abbrev pub copy_generation : Option CommitCopy → ℕ
+copy_generation None = 0
+copy_generation (Some found) = found.commit.generation
 
 -- What the image of a dump holds, and its lines.
 pub record SeesInto (dump : DumpContent) (insight : Insight) : Type 0 where

@@ -3,7 +3,7 @@ use Rattle.std.specs.Prelude.{◌≡◌, false, []}
 use Rattle.flt_flash.specs.Power.{PowerState}
 
 -- It is on, no operation failed so far, and no arm stands.
-pub record IsQuiet (power : PowerState) : Type 0 where
+pub record IsPowerQuiet (power : PowerState) : Type 0 where
   pub on : power.is_off ≡ false
   pub unfailed : power.faults ≡ 0
   pub unarmed : power.standing ≡ []

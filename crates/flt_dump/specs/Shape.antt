@@ -2,11 +2,11 @@
 use Rattle.flt_flash.specs.State.{HasShape}
 use Rattle.flt_flash.specs.Shape as memory
 use Rattle.flt_dump.specs.declared.copy.ImageCopy.{ImageCopy}
-use Rattle.flt_dump.specs.Copy.{state_of}
+use Rattle.flt_dump.specs.Copy.{copy_state}
 
 -- The shape is that of the flash in memory.
-pub shape_of : (copy : ImageCopy) → HasShape (state_of copy)
-shape_of copy =
+pub copy_shape : (copy : ImageCopy) → HasShape (copy_state copy)
+copy_shape copy =
     let shape = memory.shape_of copy.flash in
     record {
       most = shape.most;

@@ -1,7 +1,7 @@
 //! A copy of an image.
 ghost use Rattle.std.specs.Prelude.{◌≡◌, ◌+◌, ◌*◌, ◌/◌, ◌%◌, ◌<◌, ◌≤◌, ◌∷◌, [], IfOk, OnOk, take, drop, length};
 ghost use Rattle.flt_flash.specs.Memory.{power_of};
-ghost use Rattle.flt_dump.specs.Quiet.{IsQuiet};
+ghost use Rattle.flt_dump.specs.Quiet.{IsPowerQuiet};
 
 use flt_flash::{Arm, Bench, Flash, FlashFailed, FlashMem};
 use std::alloc::{AllocError, Global};
@@ -10,20 +10,20 @@ use std::alloc::{AllocError, Global};
 #[derive(Drop)]
 pub(crate) struct ImageCopy {
     flash: FlashMem,
-    ghost quiet: { IsQuiet (power_of flash) },
+    ghost quiet: { IsPowerQuiet (power_of flash) },
 }
 
 impl ImageCopy {
-    ghost use Rattle.flt_dump.specs.Copy.{state_of};
+    ghost use Rattle.flt_dump.specs.Copy.{copy_state};
 
     /// A flash with this image of 4 to 2,048 pages, an even number, sector 0's pages first. The error means that memory ran out.
     pub(crate) fn of(alloc: Global, image: Vec<[u8; 32]>) -> Result<ImageCopy, AllocError>
         requires even { length image.items % 2 ≡ 0 }
         requires least { 4 ≤ length image.items }
         requires most { length image.items ≤ 2048 }
-        ensures pages { IfOk result (λ copy. (state_of copy).pages ≡ length image.items / 2) }
+        ensures pages { IfOk result (λ copy. (copy_state copy).pages ≡ length image.items / 2) }
         ensures image { IfOk result (λ copy. let pages = length image.items / 2 in
-            (state_of copy).image ≡ take pages image.items ∷ drop pages image.items ∷ []) }
+            (copy_state copy).image ≡ take pages image.items ∷ drop pages image.items ∷ []) }
     {
         let flash = FlashMem::of(alloc, image, 0)?;
         Ok(ImageCopy { flash })
@@ -31,12 +31,12 @@ impl ImageCopy {
 }
 
 impl Flash for ImageCopy {
-    ghost use Rattle.flt_dump.specs.Copy.{state_of};
-    ghost use Rattle.flt_dump.specs.Shape.{shape_of};
+    ghost use Rattle.flt_dump.specs.Copy.{copy_state};
+    ghost use Rattle.flt_dump.specs.Shape.{copy_shape};
 
-    ghost state = { state_of };
+    ghost state = { copy_state };
 
-    ghost shape = { shape_of };
+    ghost shape = { copy_shape };
 
     fn pages(&self) -> u16 {
         self.flash.pages()
@@ -64,7 +64,7 @@ impl Flash for ImageCopy {
 }
 
 impl Bench for ImageCopy {
-    ghost use Rattle.flt_dump.specs.Copy.{state_of};
+    ghost use Rattle.flt_dump.specs.Copy.{copy_state};
 
     fn boots_left(&self) -> u16 {
         self.flash.boots_left()

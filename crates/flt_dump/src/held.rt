@@ -1,9 +1,9 @@
 //! What the image of a dump holds.
 ghost use Rattle.std.specs.Prelude.{◌≡◌, ◌≤◌, IfOk};
 ghost use Rattle.flt_store_model.specs.Image.{image_held};
-ghost use Rattle.flt_dump.specs.Copy.{state_of};
-ghost use Rattle.flt_dump.specs.Held.{SeesInto, number_of, number_told};
-ghost use Rattle.flt_dump.specs.Reads.{content_of};
+ghost use Rattle.flt_dump.specs.Copy.{copy_state};
+ghost use Rattle.flt_dump.specs.Held.{SeesInto, copy_generation, number_told};
+ghost use Rattle.flt_dump.specs.Reads.{dump_content};
 
 use crate::copy::ImageCopy;
 use crate::dump::Dump;
@@ -29,7 +29,7 @@ pub struct Insight {
 
 /// The number of the generation of a commit, 0 where there is none.
 fn number_of(found: &Option<CommitCopy>) -> u32
-    ensures { result ≡ number_of found.now }
+    ensures { result ≡ copy_generation found.now }
 {
     match found {
         Some(found) => found.commit.generation,
@@ -43,8 +43,8 @@ fn held_in(
     copy: ImageCopy,
     config: &ValidConfig,
 ) -> Result<Result<u32, StartFault>, AllocError>
-    requires { config.now.pages ≤ (state_of copy).pages }
-    ensures { IfOk result (λ held. held ≡ number_told config.now (image_held config.now (state_of copy).image)) }
+    requires { config.now.pages ≤ (copy_state copy).pages }
+    ensures { IfOk result (λ held. held ≡ number_told config.now (image_held config.now (copy_state copy).image)) }
 {
     let numbers = fee_numbers(alloc)?;
     let table = block_table(alloc)?;
@@ -69,7 +69,7 @@ fn held_in(
 
 /// Looks into the image of a dump: what it holds, whatever its sequence number, and its lines. The error means that memory ran out.
 pub fn look_into(alloc: Global, dump: Dump) -> Result<Insight, AllocError>
-    ensures { IfOk result (SeesInto (content_of dump)) }
+    ensures { IfOk result (SeesInto (dump_content dump)) }
 {
     let Dump { config, pages } = dump;
     let mut copy = ImageCopy::of(alloc, pages)?;

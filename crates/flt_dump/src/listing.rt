@@ -4,7 +4,7 @@ ghost use Rattle.flt_flash.specs.Image.{sector_at};
 ghost use Rattle.flt_sector_model.specs.Log.{log};
 ghost use Rattle.flt_store_model.specs.Layout.{numbers};
 ghost use Rattle.flt_pages.specs.Told.{current_of};
-ghost use Rattle.flt_dump.specs.Copy.{state_of};
+ghost use Rattle.flt_dump.specs.Copy.{copy_state};
 ghost use Rattle.flt_dump.specs.Listing.{ending_text, listing_text, record_line, sector_line, torn_line};
 ghost use Rattle.flt_dump.specs.Listed.{IsListed, entry_of};
 
@@ -81,10 +81,10 @@ fn put_log(
 ) -> Result<bool, AllocError>
     requires sector { sector < 2 }
     requires least { 2 ≤ used }
-    requires most { used ≤ (state_of copy.old).pages }
-    ensures listed { IfOk result (λ whole. IsListed whole (log used numbers.now (sector_at (state_of copy.old).image sector)) out.old.items out.new.items) }
-    ensures image { (state_of copy.new).image ≡ (state_of copy.old).image }
-    ensures pages { (state_of copy.new).pages ≡ (state_of copy.old).pages }
+    requires most { used ≤ (copy_state copy.old).pages }
+    ensures listed { IfOk result (λ whole. IsListed whole (log used numbers.now (sector_at (copy_state copy.old).image sector)) out.old.items out.new.items) }
+    ensures image { (copy_state copy.new).image ≡ (copy_state copy.old).image }
+    ensures pages { (copy_state copy.new).pages ≡ (copy_state copy.old).pages }
 {
     let mut page = 2;
     'log: loop {
@@ -123,10 +123,10 @@ fn put_log(
 /// fault. The image stays.
 pub(crate) fn list(alloc: Global, copy: &mut ImageCopy, used: u16) -> Result<Vec<u8>, AllocError>
     requires least { 2 ≤ used }
-    requires most { used ≤ (state_of copy.old).pages }
-    ensures lines { IfOk result (λ text. text.items ≡ listing_text used numbers (state_of copy.old).image) }
-    ensures image { (state_of copy.new).image ≡ (state_of copy.old).image }
-    ensures pages { (state_of copy.new).pages ≡ (state_of copy.old).pages }
+    requires most { used ≤ (copy_state copy.old).pages }
+    ensures lines { IfOk result (λ text. text.items ≡ listing_text used numbers (copy_state copy.old).image) }
+    ensures image { (copy_state copy.new).image ≡ (copy_state copy.old).image }
+    ensures pages { (copy_state copy.new).pages ≡ (copy_state copy.old).pages }
 {
     let numbers = Numbers::make(alloc, fee_numbers(alloc)?)?;
     let mut out = Vec::new(alloc);

@@ -1,7 +1,7 @@
 //! The pages of a dump.
 ghost use Rattle.std.specs.Prelude.{◌≡◌, ◌+◌, ◌<◌, ◌^◌, Ok, IfOk, IfErr, vec_len};
 ghost use Rattle.flt_script.specs.Text.{lines_of};
-ghost use Rattle.flt_dump.specs.Dump.{page_in, pages_in};
+ghost use Rattle.flt_dump.specs.Dump.{page_spelled, pages_spelled};
 ghost use Rattle.flt_dump.specs.Pages.{IsWrongLine};
 
 use flt_script::next_line;
@@ -28,7 +28,7 @@ impl From<AllocError> for PagesFault {
 
 /// The page that a line of 64 hexadecimal digits spells.
 fn read_page(line: &[u8]) -> Option<[u8; 32]>
-    ensures { result ≡ page_in line.now }
+    ensures { result ≡ page_spelled line.now }
 {
     let mut page = [0; 32];
     match hex::decode_to_slice(line, &mut page) {
@@ -45,9 +45,9 @@ pub(crate) fn read_pages(
     count: usize,
 ) -> Result<Vec<[u8; 32]>, PagesFault>
     requires { first + count < 2 ^ 64 }
-    ensures pages { IfOk result (λ pages. pages_in first count (lines_of text.now) ≡ Ok pages.items) }
+    ensures pages { IfOk result (λ pages. pages_spelled first count (lines_of text.now) ≡ Ok pages.items) }
     ensures many { IfOk result (λ pages. vec_len pages ≡ count) }
-    ensures wrong { IfErr result (λ fault. IsWrongLine fault (pages_in first count (lines_of text.now))) }
+    ensures wrong { IfErr result (λ fault. IsWrongLine fault (pages_spelled first count (lines_of text.now))) }
 {
     let mut pages = Vec::with_capacity(alloc, count)?;
     let mut rest = text;

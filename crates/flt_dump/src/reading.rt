@@ -5,8 +5,8 @@ ghost use Rattle.flt_did.specs.Table.{dids_of};
 ghost use Rattle.flt_step.specs.Part.{part_of};
 ghost use Rattle.flt_script.specs.Script.{content};
 ghost use Rattle.flt_script.specs.Gives.{IsAsDefined};
-ghost use Rattle.flt_dump.specs.Dump.{dump_of, has_begun, has_step};
-ghost use Rattle.flt_dump.specs.Reads.{content_of, fault_of};
+ghost use Rattle.flt_dump.specs.Dump.{dump_of, has_begun_life, has_step};
+ghost use Rattle.flt_dump.specs.Reads.{dump_content, dump_refusal_of};
 
 use crate::dump::{Dump, DumpFault};
 use crate::lines::find_image;
@@ -42,7 +42,7 @@ fn lives_have_step(lives: &[Vec<Part>]) -> bool
 
 /// A step, or the end of a life, stands in the script.
 fn has_begun(script: &Script) -> bool
-    ensures { result ≡ has_begun (content script.now) }
+    ensures { result ≡ has_begun_life (content script.now) }
 {
     1 < script.lives.len() || lives_have_step(&script.lives)
 }
@@ -50,7 +50,7 @@ fn has_begun(script: &Script) -> bool
 /// Reads a dump: the lines of a configuration, a line `image`, and a line of 64 hexadecimal digits for each page of both sectors, those
 /// of sector 0 first. Its events may use the data identifiers of the table.
 pub fn read_dump(alloc: Global, bytes: &[u8], dids: &DidTable<DID_ROWS>) -> Result<Dump, DumpFault>
-    ensures { IsAsDefined content_of fault_of result (dump_of (dids_of dids.now) bytes.now) }
+    ensures { IsAsDefined dump_content dump_refusal_of result (dump_of (dids_of dids.now) bytes.now) }
 {
     let Some(image) = find_image(bytes) else {
         return Err(DumpFault::Script(ScriptFault {

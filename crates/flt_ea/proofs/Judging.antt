@@ -6,7 +6,7 @@ use Rattle.std.proofs.lemmas.Bool.Decides.{nat_tests}
 use Rattle.flt_code.specs.Seal.{unsealed}
 use Rattle.flt_code.specs.Spoiled.{is_spoiled}
 use Rattle.flt_ea.specs.Gate.{gate_of}
-use Rattle.flt_ea.specs.Image.{gate_in, gate_of_word, newer, next_place, next_sequence, same_sequence, is_foreign, is_foreign_gate, is_damaged, judged}
+use Rattle.flt_ea.specs.Image.{gate_in, gate_of_word, newer, next_place, next_sequence, same_sequence, is_foreign, is_foreign_gate, is_damaged, judged_places}
 use Rattle.flt_ea.specs.declared.gate.Gate.{Gate}
 use Rattle.flt_ea.specs.declared.place.Held.{Held}
 
@@ -116,11 +116,11 @@ judged_sound : (first second same : Bool) (found held : Option Held) → first �
 judged_sound first second same found held one two three is = (λ i. verdict (one i) (two i) (three i) (is i))
 
 -- A block whose gates are sound is held by the newer one.
-pub held_is : (number : ℕ) (first second : List ℕ) (held : Option Held) → judged number first second ≡ Ok held → newer (gate_in first) (gate_in second) ≡ held
+pub held_is : (number : ℕ) (first second : List ℕ) (held : Option Held) → judged_places number first second ≡ Ok held → newer (gate_in first) (gate_in second) ≡ held
 held_is number first second held was = (sound (is_damaged number first) (is_damaged number second) (same_sequence (gate_in first) (gate_in second)) (newer (gate_in first) (gate_in second)) held was).found_is
 
 -- And no gate unit of it is spoiled.
-pub none_spoiled : (number : ℕ) (first second : List ℕ) (held : Option Held) → judged number first second ≡ Ok held → (is_spoiled first ≡ false) × (is_spoiled second ≡ false)
+pub none_spoiled : (number : ℕ) (first second : List ℕ) (held : Option Held) → judged_places number first second ≡ Ok held → (is_spoiled first ≡ false) × (is_spoiled second ≡ false)
 none_spoiled number first second held was =
     let is = sound (is_damaged number first) (is_damaged number second) (same_sequence (gate_in first) (gate_in second)) (newer (gate_in first) (gate_in second)) held was in
     (neither (is_foreign number (unsealed first)) (is_spoiled first) is.first_is, neither (is_foreign number (unsealed second)) (is_spoiled second) is.second_is)
@@ -129,7 +129,7 @@ none_spoiled number first second held was =
     neither true b is = absurd cc
     neither false b is = is
 
-module _ (number : ℕ) (first second laid : List ℕ) (held : Option Held) (was : judged number first second ≡ Ok held) (unspoiled : is_spoiled laid ≡ false) where
+module _ (number : ℕ) (first second laid : List ℕ) (held : Option Held) (was : judged_places number first second ≡ Ok held) (unspoiled : is_spoiled laid ≡ false) where
   stood : IsSound (is_damaged number first) (is_damaged number second) (same_sequence (gate_in first) (gate_in second)) (newer (gate_in first) (gate_in second)) held
   stood = sound (is_damaged number first) (is_damaged number second) (same_sequence (gate_in first) (gate_in second)) (newer (gate_in first) (gate_in second)) held was
 
@@ -145,12 +145,12 @@ module _ (number : ℕ) (first second laid : List ℕ) (held : Option Held) (was
     no_same None = refl
     no_same (Some gate) = refl
 
-    pub empty_first : next_place held ≡ 0 → judged number laid second ≡ Ok held
+    pub empty_first : next_place held ≡ 0 → judged_places number laid second ≡ Ok held
     empty_first place = judged_sound (is_damaged number laid) (is_damaged number second) (same_sequence (gate_in laid) (gate_in second)) (newer (gate_in laid) (gate_in second)) held
         undamaged stood.second_is (ap (λ (a : Option Gate). same_sequence a (gate_in second)) no_gate)
         (ap (λ (a : Option Gate). newer a (gate_in second)) no_gate ∙ emptied_first (gate_in first) (gate_in second) held stood.found_is place)
 
-    pub empty_second : next_place held ≡ 1 → judged number first laid ≡ Ok held
+    pub empty_second : next_place held ≡ 1 → judged_places number first laid ≡ Ok held
     empty_second place = judged_sound (is_damaged number first) (is_damaged number laid) (same_sequence (gate_in first) (gate_in laid)) (newer (gate_in first) (gate_in laid)) held
         stood.first_is undamaged (ap (same_sequence (gate_in first)) no_gate ∙ no_same (gate_in first))
         (ap (newer (gate_in first)) no_gate ∙ emptied_second (gate_in first) (gate_in second) held stood.found_is place)
@@ -166,13 +166,13 @@ module _ (number : ℕ) (first second laid : List ℕ) (held : Option Held) (was
     that_gate : gate_in laid ≡ Some new
     that_gate = ap gate_of_word is_word ∙ is_gate
 
-    pub given_first : next_place held ≡ 0 → judged number laid second ≡ Ok (held_at 0 new)
+    pub given_first : next_place held ≡ 0 → judged_places number laid second ≡ Ok (held_at 0 new)
     given_first place =
         let gated = gated_first new held next (gate_in first) (gate_in second) stood.found_is place in
         judged_sound (is_damaged number laid) (is_damaged number second) (same_sequence (gate_in laid) (gate_in second)) (newer (gate_in laid) (gate_in second)) (held_at 0 new)
         own stood.second_is (ap (λ (a : Option Gate). same_sequence a (gate_in second)) that_gate ∙ gated.1) (ap (λ (a : Option Gate). newer a (gate_in second)) that_gate ∙ gated.0)
 
-    pub given_second : next_place held ≡ 1 → judged number first laid ≡ Ok (held_at 1 new)
+    pub given_second : next_place held ≡ 1 → judged_places number first laid ≡ Ok (held_at 1 new)
     given_second place =
         let gated = gated_second new held next (gate_in first) (gate_in second) stood.found_is place in
         judged_sound (is_damaged number first) (is_damaged number laid) (same_sequence (gate_in first) (gate_in laid)) (newer (gate_in first) (gate_in laid)) (held_at 1 new)

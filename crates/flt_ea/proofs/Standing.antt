@@ -7,23 +7,23 @@ use Rattle.std.proofs.lemmas.List.{get_or_read}
 use Rattle.flt_flash.specs.Content.{Content, invalid, bytes}
 use Rattle.flt_flash.specs.Image.{sector_at}
 use Rattle.flt_flash.specs.State.{FlashState, MakesOperations, HasRisenBy}
-use Rattle.flt_flash.specs.Calls.{Follows, Calls, Changes, found_of}
+use Rattle.flt_flash.specs.Calls.{Follows, BlockCalls, Changes, found_of}
 use Rattle.flt_flash.specs.declared.blocks.BlockFault.{BlockFault}
 use Rattle.flt_flash.specs.declared.blocks.BlockFault.TheVariants.{Flash, Damaged, SequenceSpent}
 use Rattle.flt_flash.specs.declared.blocks.Found.TheVariants.{Bytes}
 use Rattle.flt_flash.specs.declared.flash.FlashFailed.{FlashFailed}
 use Rattle.flt_flash.proofs.Answering.{sound_calls, changes_done, changes_failed}
 use Rattle.flt_code.specs.Spoiled.{is_spoiled}
-use Rattle.flt_pages.specs.LogHolds.{asked_of}
+use Rattle.flt_pages.specs.LogHolds.{record_content}
 use Rattle.flt_pages.specs.Record.{KeptApart}
 use Rattle.flt_ea.specs.State.{HasUnits}
 use Rattle.flt_code.specs.Word.{is_length}
 use Rattle.flt_ea.specs.Gate.{IsGate, gate_bytes, gate_of}
-use Rattle.flt_ea.specs.Image.{gate_unit, gate_at, bytes_behind, content_of, current, gate_in, newer, is_last, next_place, next_sequence, judged, value_in, damage_in, is_spent_in, is_stuck_in, spent_from}
+use Rattle.flt_ea.specs.Image.{gate_unit, gate_at, bytes_after_gate, place_content, current_place, gate_in, newer, has_last_sequence, next_place, next_sequence, judged_places, value_in, damage_in, is_spent_in, is_stuck_in, spent_from}
 use Rattle.flt_ea.specs.Scan.{IsTable}
 use Rattle.flt_ea.specs.Driver.{state_by}
-use Rattle.flt_ea.specs.Written.{HoldsRecord, RecordLeft, WritesRecord}
-use Rattle.flt_ea.specs.Proper.{IsHeld, current_held}
+use Rattle.flt_ea.specs.Written.{HoldsRecord, UnitRecordLeft, WritesRecord}
+use Rattle.flt_ea.specs.Proper.{IsHeldPlace, current_held}
 use Rattle.flt_ea.specs.Laws.{held_size}
 use Rattle.flt_ea.specs.declared.ea.Ea.{Ea}
 use Rattle.flt_ea.specs.declared.gate.Gate.{Gate}
@@ -49,12 +49,12 @@ is_gate gate held block size most next kind = record { block = block; size = ome
 
 -- The table has the current place of a position.
 pub current_read : (numbers : List ℕ) (units : List (List ℕ)) (table : List (Option Held)) (position : ℕ) (found : Option Held) → IsTable (length numbers) units table → position < length numbers → length table ≡ length numbers
-    → found ≡ get_or table position found → current units position ≡ found
+    → found ≡ get_or table position found → current_place units position ≡ found
 current_read numbers units table position found tells lt sized read = sym (tells position lt) ∙ sym (get_or_read table position found (omega arith) read None)
 
 -- It tells whether some block is spent.
-pub told_spent : (numbers : List ℕ) (units : List (List ℕ)) (table : List (Option Held)) → length table ≡ length numbers → IsTable (length numbers) units table → list_any is_last table ≡ spent_from 0 numbers units
-told_spent numbers units table sized tells = spent_told units 0 numbers table sized (λ k less. from_zero (λ n. get_or table k None ≡ current units n) k (tells k less))
+pub told_spent : (numbers : List ℕ) (units : List (List ℕ)) (table : List (Option Held)) → length table ≡ length numbers → IsTable (length numbers) units table → list_any has_last_sequence table ≡ spent_from 0 numbers units
+told_spent numbers units table sized tells = spent_told units 0 numbers table sized (λ k less. from_zero (λ n. get_or table k None ≡ current_place units n) k (tells k less))
 
 -- A call that leaves an image without a fault, of a driver that has mounted.
 module _ (numbers : List ℕ) (before after : FlashState) (runs : MakesOperations before after) (sound : damage_in numbers before.image ≡ None) (stays_sound : damage_in numbers after.image ≡ None)
@@ -74,7 +74,7 @@ module _ (numbers : List ℕ) (before after : FlashState) (runs : MakesOperation
   }
 
   pub quiet_calls : {T : Type 0} (result : Result T BlockFault) → (IsErrOf result Flash → HasRisenBy 1 before.faults after.faults)
-      → ((sector page : ℕ) → IsErrOf result (Damaged sector page) → ⊥) → Calls (state_by numbers was_stale has_mounted before) (state_by numbers is_stale has_mounted after) result
+      → ((sector page : ℕ) → IsErrOf result (Damaged sector page) → ⊥) → BlockCalls (state_by numbers was_stale has_mounted before) (state_by numbers is_stale has_mounted after) result
   quiet_calls result = sound_calls result quiet_follows sound
 
 -- An image has no fault, and this is the current place of a block of it, which stands at this position.
@@ -85,7 +85,7 @@ pub record StandsAt (device : FlashState) (numbers : List ℕ) (position block :
   pub sound : damage_in numbers device.image ≡ None
   pub lt : position < length numbers
   pub is : get_or numbers position 0 ≡ block
-  pub here : current (sector_at device.image 0) position ≡ found
+  pub here : current_place (sector_at device.image 0) position ≡ found
 
 -- A driver that is not stale knows the current place of each block.
 pub stands_at : {E : Type 0} {g : _} (driver : Ea E g) → HasUnits (g.state driver.device) → driver.is_stale ≡ false → (position block : ℕ) (found : Option Held) → position < length driver.numbers → get_or driver.numbers position 0 ≡ block
@@ -102,7 +102,7 @@ stands_at {E} {g} driver shape settled position block found lt is read = record 
 
 -- A record of a block is written to its place that is not current.
 pub record WritesNext (device after : FlashState) (position block : ℕ) (found : Option Held) (new : Gate) (written : List ℕ) (result : Result (Unit {0}) FlashFailed) : Type 0 where
-  pub left_over : is_last found ≡ false
+  pub left_over : has_last_sequence found ≡ false
   pub size : new.length ≡ length written
   pub number : new.block ≡ block
   pub next : new.sequence ≡ next_sequence found
@@ -113,17 +113,17 @@ module _ {device : FlashState} {numbers : List ℕ} {position block : ℕ} {foun
   abbrev units : List (List ℕ)
   units = sector_at device.image 0
 
-  pub value_is : value_in numbers device.image block ≡ content_of units position found
+  pub value_is : value_in numbers device.image block ≡ place_content units position found
   value_is =
-      at_zero (λ n. value_in numbers device.image block ≡ content_of units n (current units n)) position (value_at units 0 numbers block stands.distinct position stands.lt stands.is)
-      ∙ ap (content_of units position) stands.here
+      at_zero (λ n. value_in numbers device.image block ≡ place_content units n (current_place units n)) position (value_at units 0 numbers block stands.distinct position stands.lt stands.is)
+      ∙ ap (place_content units position) stands.here
 
-  pub stuck_is : is_stuck_in numbers device.image block ≡ is_last found
-  stuck_is = at_zero (λ n. is_stuck_in numbers device.image block ≡ is_last (current units n)) position (stuck_at units 0 numbers block stands.distinct position stands.lt stands.is) ∙ ap is_last stands.here
+  pub stuck_is : is_stuck_in numbers device.image block ≡ has_last_sequence found
+  stuck_is = at_zero (λ n. is_stuck_in numbers device.image block ≡ has_last_sequence (current_place units n)) position (stuck_at units 0 numbers block stands.distinct position stands.lt stands.is) ∙ ap has_last_sequence stands.here
 
   stood : IsAt block units position found
   stood = subst (λ (h : Option Held). IsAt block units position h) stands.here
-      (is_at block units position (current units position)
+      (is_at block units position (current_place units position)
       (subst (λ n. SoundAt n units position) stands.is (at_zero (SoundAt (get_or numbers position 0) units) position (sound_at units 0 numbers stands.sound position stands.lt))))
 
   -- The gate unit that is written next is not spoiled.
@@ -134,31 +134,31 @@ module _ {device : FlashState} {numbers : List ℕ} {position block : ℕ} {foun
 
   -- A record is current.
   module _ (held : Held) (is : found ≡ Some held) where
-    pub current_is : IsHeld held
+    pub current_is : IsHeldPlace held
     current_is = current_held units position held (stands.here ∙ is)
 
     -- As many bytes stand behind its gate as it says.
-    pub size_is : length (bytes_behind units (gate_unit position held.place) held.gate.length) ≡ held.gate.length
+    pub size_is : length (bytes_after_gate units (gate_unit position held.place) held.gate.length) ≡ held.gate.length
     size_is =
         let lt = stands.lt in
         let within = stands.within in
         held_size device stands.shape position held (omega arith) current_is
 
-    record_value : value_in numbers device.image block ≡ (if held.gate.valid then bytes (bytes_behind units (gate_unit position held.place) held.gate.length) else invalid)
-    record_value = value_is ∙ ap (content_of units position) is
+    record_value : value_in numbers device.image block ≡ (if held.gate.valid then bytes (bytes_after_gate units (gate_unit position held.place) held.gate.length) else invalid)
+    record_value = value_is ∙ ap (place_content units position) is
 
-    pub valid_value : held.gate.valid ≡ true → value_in numbers device.image block ≡ bytes (bytes_behind units (gate_unit position held.place) held.gate.length)
-    valid_value valid = record_value ∙ ap (λ v. if v then bytes (bytes_behind units (gate_unit position held.place) held.gate.length) else invalid) valid
+    pub valid_value : held.gate.valid ≡ true → value_in numbers device.image block ≡ bytes (bytes_after_gate units (gate_unit position held.place) held.gate.length)
+    valid_value valid = record_value ∙ ap (λ v. if v then bytes (bytes_after_gate units (gate_unit position held.place) held.gate.length) else invalid) valid
 
     pub invalid_value : held.gate.valid ≡ false → value_in numbers device.image block ≡ invalid
-    invalid_value valid = record_value ∙ ap (λ v. if v then bytes (bytes_behind units (gate_unit position held.place) held.gate.length) else invalid) valid
+    invalid_value valid = record_value ∙ ap (λ v. if v then bytes (bytes_after_gate units (gate_unit position held.place) held.gate.length) else invalid) valid
 
     -- What is found of a valid record.
     pub valid_found : held.gate.valid ≡ true → Bytes held.gate.length ≡ found_of (value_in numbers device.image block)
     valid_found valid = ap Bytes (sym size_is) ∙ sym (ap found_of (valid_value valid))
 
   -- A record that is stuck.
-  module _ (last : is_last found ≡ true) (asked : Content) (size : ℕ) (is_stale has_mounted : Bool) where
+  module _ (last : has_last_sequence found ≡ true) (asked : Content) (size : ℕ) (is_stale has_mounted : Bool) where
     pub spent_changes : Changes (state_by numbers is_stale has_mounted device) (state_by numbers is_stale has_mounted device) block asked size (Err SequenceSpent)
     spent_changes = record {
       done = tt;
@@ -187,7 +187,7 @@ module _ {device : FlashState} {numbers : List ℕ} {position block : ℕ} {foun
     same : (k : ℕ) → k ≢ position → SameAt units now k
     same k differ = other_same block position units now found stood apart k differ
 
-    same_current : (k : ℕ) → k ≢ position → current now k ≡ current units k
+    same_current : (k : ℕ) → k ≢ position → current_place now k ≡ current_place units k
     same_current k differ = (λ i. newer (gate_in ((same k differ).first i)) (gate_in ((same k differ).second i)))
 
     -- Its own has this current place now.
@@ -196,33 +196,33 @@ module _ {device : FlashState} {numbers : List ℕ} {position block : ℕ} {foun
       sound_each k less = elim (cases_eq k position) [
         | inl own ↦ subst (λ n. SoundAt (get_or numbers n 0) now n) (sym own) (subst (λ n. SoundAt n now position) (sym stands.is) (at.sound ∙ ap Ok (sym at.current)))
         | inr other ↦ (
-            (λ i. judged (get_or numbers k 0) ((same k other).first i) ((same k other).second i))
+            (λ i. judged_places (get_or numbers k 0) ((same k other).first i) ((same k other).second i))
             ∙ at_zero (SoundAt (get_or numbers k 0) units) k (sound_at units 0 numbers stands.sound k less) ∙ ap Ok (sym (same_current k other)))
       ]
 
       sound_now : damage_in numbers after.image ≡ None
       sound_now = sound_all now 0 numbers (λ k less. from_zero (SoundAt (get_or numbers k 0) now) k (sound_each k less))
 
-      value_now : value_in numbers after.image block ≡ content_of now position held
-      value_now = at_zero (λ n. value_in numbers after.image block ≡ content_of now n (current now n)) position (value_at now 0 numbers block stands.distinct position stands.lt stands.is) ∙ ap (content_of now position) at.current
+      value_now : value_in numbers after.image block ≡ place_content now position held
+      value_now = at_zero (λ n. value_in numbers after.image block ≡ place_content now n (current_place now n)) position (value_at now 0 numbers block stands.distinct position stands.lt stands.is) ∙ ap (place_content now position) at.current
 
     others : (other : ℕ) → other ≢ block → value_in numbers after.image other ≡ value_in numbers device.image other
-    others other differ = same_value units now 0 numbers other (λ k less that. from_zero (λ n. content_of now n (current now n) ≡ content_of units n (current units n)) k
+    others other differ = same_value units now 0 numbers other (λ k less that. from_zero (λ n. place_content now n (current_place now n) ≡ place_content units n (current_place units n)) k
         (same k (λ own. differ (sym that ∙ ap (λ n. get_or numbers n 0) own ∙ stands.is))).content)
 
     spent : is_spent_in numbers device.image ≡ true → is_spent_in numbers after.image ≡ true
-    spent = stays_spent units now 0 numbers (λ k less. from_zero (λ n. is_last (current units n) ≡ true → is_last (current now n) ≡ true) k (each k))
+    spent = stays_spent units now 0 numbers (λ k less. from_zero (λ n. has_last_sequence (current_place units n) ≡ true → has_last_sequence (current_place now n) ≡ true) k (each k))
       where
-        each : (k : ℕ) → is_last (current units k) ≡ true → is_last (current now k) ≡ true
+        each : (k : ℕ) → has_last_sequence (current_place units k) ≡ true → has_last_sequence (current_place now k) ≡ true
         each k last = elim (cases_eq k position) [
-          | inl own ↦ absurd (let no : is_last (current units k) ≡ false = ap (λ n. is_last (current units n)) own ∙ ap is_last stands.here ∙ put.left_over in cc (no, last))
-          | inr other ↦ ap is_last (same_current k other) ∙ last
+          | inl own ↦ absurd (let no : has_last_sequence (current_place units k) ≡ false = ap (λ n. has_last_sequence (current_place units n)) own ∙ ap has_last_sequence stands.here ∙ put.left_over in cc (no, last))
+          | inr other ↦ ap has_last_sequence (same_current k other) ∙ last
         ]
 
     pub record Stored : Type 0 where
       pub held : Option Held
       pub at : IsAt block now position held
-      pub either : (value_in numbers after.image block ≡ value_in numbers device.image block) ⊎ (value_in numbers after.image block ≡ asked_of new.valid written)
+      pub either : (value_in numbers after.image block ≡ value_in numbers device.image block) ⊎ (value_in numbers after.image block ≡ record_content new.valid written)
 
     stays : StaysAt block position units now found stood apart → Stored
     stays kept = record { held = found; at = kept.is_held; either = inl (value_now found kept.is_held ∙ kept.content ∙ sym value_is) }
@@ -230,13 +230,13 @@ module _ {device : FlashState} {numbers : List ℕ} {position block : ℕ} {foun
     whole_at : HoldsRecord now unit new written → IsAt block now position (held_at (next_place found) new)
     whole_at whole = gate_given block position units now found stood apart new written put.size put.number put.next put.read whole
 
-    whole_value : HoldsRecord now unit new written → value_in numbers after.image block ≡ asked_of new.valid written
+    whole_value : HoldsRecord now unit new written → value_in numbers after.image block ≡ record_content new.valid written
     whole_value whole = value_now (held_at (next_place found) new) (whole_at whole) ∙ content_given block position units now found stood apart new written put.size put.number put.next put.read whole
 
     pub stored : Stored
-    stored = by_left (subst (λ (p : List (List ℕ)). RecordLeft units p unit new written) now_is put.writes.left)
+    stored = by_left (subst (λ (p : List (List ℕ)). UnitRecordLeft units p unit new written) now_is put.writes.left)
       where
-        by_left : RecordLeft units now unit new written → Stored
+        by_left : UnitRecordLeft units now unit new written → Stored
         by_left (inl as_before) = stays (gate_stood block position units now found stood apart as_before)
         by_left (inr (inl empty)) = stays (gate_emptied block position units now found stood apart empty)
         by_left (inr (inr whole)) = record { held = held_at (next_place found) new; at = whole_at whole; either = inr (whole_value whole) }
@@ -245,26 +245,26 @@ module _ {device : FlashState} {numbers : List ℕ} {position block : ℕ} {foun
     stored_sound = sound_now stored.held stored.at
 
     module _ (was_stale has_mounted : Bool) where
-      pub failed_calls : HasRisenBy 1 device.faults after.faults → (answer : Result (Unit {0}) BlockFault) → answer ≡ Err Flash → Calls (state_by numbers was_stale has_mounted device) (state_by numbers true has_mounted after) answer
+      pub failed_calls : HasRisenBy 1 device.faults after.faults → (answer : Result (Unit {0}) BlockFault) → answer ≡ Err Flash → BlockCalls (state_by numbers was_stale has_mounted device) (state_by numbers true has_mounted after) answer
       failed_calls cause answer told = quiet_calls numbers device after put.writes.on.runs stands.sound stored_sound spent was_stale has_mounted true answer (λ flash. cause) (λ s p damaged. cc (told, damaged))
 
-      pub failed_changes : (answer : Result (Unit {0}) BlockFault) → answer ≡ Err Flash → Changes (state_by numbers was_stale has_mounted device) (state_by numbers true has_mounted after) block (asked_of new.valid written) (length written) answer
-      failed_changes answer told = changes_failed (state_by numbers was_stale has_mounted device) (state_by numbers true has_mounted after) block (asked_of new.valid written) (length written) answer told stored.either others
+      pub failed_changes : (answer : Result (Unit {0}) BlockFault) → answer ≡ Err Flash → Changes (state_by numbers was_stale has_mounted device) (state_by numbers true has_mounted after) block (record_content new.valid written) (length written) answer
+      failed_changes answer told = changes_failed (state_by numbers was_stale has_mounted device) (state_by numbers true has_mounted after) block (record_content new.valid written) (length written) answer told stored.either others
 
       -- It holds the record whole.
       module _ (whole : HoldsRecord now unit new written) where
-        pub done_calls : Calls {T = Unit {0}} (state_by numbers was_stale has_mounted device) (state_by numbers false has_mounted after) (Ok tt)
+        pub done_calls : BlockCalls {T = Unit {0}} (state_by numbers was_stale has_mounted device) (state_by numbers false has_mounted after) (Ok tt)
         done_calls = quiet_calls numbers device after put.writes.on.runs stands.sound stored_sound spent was_stale has_mounted false {T = Unit {0}} (Ok tt) (λ told. absurd (cc told)) (λ s p told. cc told)
 
-        pub done_changes : Changes (state_by numbers was_stale has_mounted device) (state_by numbers false has_mounted after) block (asked_of new.valid written) (length written) (Ok tt)
-        done_changes = changes_done (state_by numbers was_stale has_mounted device) (state_by numbers false has_mounted after) block (asked_of new.valid written) (length written) (whole_value whole) others
+        pub done_changes : Changes (state_by numbers was_stale has_mounted device) (state_by numbers false has_mounted after) block (record_content new.valid written) (length written) (Ok tt)
+        done_changes = changes_done (state_by numbers was_stale has_mounted device) (state_by numbers false has_mounted after) block (record_content new.valid written) (length written) (whole_value whole) others
 
         -- The table has the new place.
         pub table_now : (table : List (Option Held)) → length table ≡ length numbers → IsTable (length numbers) units table → IsTable (length numbers) now (set table position (held_at (next_place found) new))
         table_now table sized tells k less = elim (cases_eq k position) [
           | inl own ↦ (
               ap (λ n. get_or (set table position (held_at (next_place found) new)) n None) own
-              ∙ get_or-set_same table position (held_at (next_place found) new) None (omega arith) ∙ sym (ap (current now) own ∙ (whole_at whole).current))
+              ∙ get_or-set_same table position (held_at (next_place found) new) None (omega arith) ∙ sym (ap (current_place now) own ∙ (whole_at whole).current))
           | inr other ↦ get_or-set_other table position k (held_at (next_place found) new) None other ∙ tells k less ∙ sym (same_current k other)
         ]
 

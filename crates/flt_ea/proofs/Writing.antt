@@ -21,7 +21,7 @@ use Rattle.flt_pages.proofs.Recording.{on_sector}
 use Rattle.flt_pages.proofs.Values.{same_range}
 use Rattle.flt_ea.specs.State.{HasUnits}
 use Rattle.flt_ea.specs.Gate.{gate_bytes}
-use Rattle.flt_ea.specs.Written.{IsEmptyAt, HoldsRecord, RecordLeft, WritesRecord}
+use Rattle.flt_ea.specs.Written.{IsEmptyAt, HoldsRecord, UnitRecordLeft, WritesRecord}
 use Rattle.flt_ea.specs.declared.gate.Gate.{Gate}
 use Rattle.flt_ea.proofs.Device.{GivesUnit, units_on}
 
@@ -41,7 +41,7 @@ module _ (before : FlashState) (shape : HasUnits before) (unit : ℕ) (gate : Ga
     set_kept : KeptApart units (set units unit laid) unit (unit + 5)
     set_kept = wider units (set units unit laid) unit (unit + 1) unit (unit + 5) (omega arith) (omega arith) (set_apart units unit laid)
 
-    torn_left : IsTornPage (get_or units unit []) blank_page laid → RecordLeft units (set units unit laid) unit gate held
+    torn_left : IsTornPage (get_or units unit []) blank_page laid → UnitRecordLeft units (set units unit laid) unit gate held
     torn_left tears = ⊎_elim
         (λ same. inl (set_at ∙ same))
         (λ none. inr (inl (record { none = ap unsealed set_at ∙ none; unspoiled = ap is_spoiled set_at ∙ erased_unspoiled (get_or units unit []) laid unspoiled tears })))
@@ -99,7 +99,7 @@ module _ (before : FlashState) (shape : HasUnits before) (unit : ℕ) (gate : Ga
                   ∙ filled
 
           torn_gate : flat_map (λ u. u) (slice_range after (unit + 1) (unit + 1 + byte_pages (length held))) ≡ on_pages held → IsTornPage (get_or after unit []) asked laid
-              → RecordLeft units (set after unit laid) unit gate held
+              → UnitRecordLeft units (set after unit laid) unit gate held
           torn_gate filled tears =
               let of_blank = subst (λ (l : List ℕ). IsTornPage l asked laid) gate_blank tears in
               ⊎_elim (λ same. inr (inr (stands filled same)))

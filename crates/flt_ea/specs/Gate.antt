@@ -23,8 +23,8 @@ pub record IsGateOf (gate : Gate) (bytes : List ℕ) : Type 0 where
   pub is : bytes ≡ gate_bytes gate
 
 -- The gate that the fields would give.
-unfoldable pub candidate : List ℕ → Option Gate
-candidate bytes =
+unfoldable pub gate_candidate : List ℕ → Option Gate
+gate_candidate bytes =
     let valid = slice_index bytes 1 == 1 in
     let block = from_be_bytes w16 (slice_range bytes 2 4) in
     let size = from_be_bytes w16 (slice_range bytes 4 6) in
@@ -32,10 +32,10 @@ candidate bytes =
     if is_length valid size && nat_le 1 sequence then Some (record { block = block; length = size; valid = valid; sequence = sequence }) else None
 
 -- A gate whose bytes these are.
-abbrev pub checked : Option Gate → List ℕ → Option Gate
-checked None bytes = None
-checked (Some gate) bytes = if bytes_eq (gate_bytes gate) bytes then Some gate else None
+abbrev pub checked_gate : Option Gate → List ℕ → Option Gate
+checked_gate None bytes = None
+checked_gate (Some gate) bytes = if bytes_eq (gate_bytes gate) bytes then Some gate else None
 
 -- The gate of 16 bytes.
 unfoldable pub gate_of : List ℕ → Option Gate
-gate_of bytes = checked (candidate bytes) bytes
+gate_of bytes = checked_gate (gate_candidate bytes) bytes

@@ -35,17 +35,17 @@ abbrev pub gate_at : List (List ℕ) → ℕ → ℕ → List ℕ
 gate_at units position place = slice_index_or units (gate_unit position place) []
 
 -- The current place of a position, with its gate.
-abbrev pub current : List (List ℕ) → ℕ → Option Held
-current units position = newer (gate_in (gate_at units position 0)) (gate_in (gate_at units position 1))
+abbrev pub current_place : List (List ℕ) → ℕ → Option Held
+current_place units position = newer (gate_in (gate_at units position 0)) (gate_in (gate_at units position 1))
 
 -- The bytes behind a gate, in as many of the four units as they need.
-abbrev pub bytes_behind : List (List ℕ) → ℕ → ℕ → List ℕ
-bytes_behind units gate size = take size (flat_map (λ unit. unit) (slice_range units (gate + 1) (gate + 1 + byte_pages size)))
+abbrev pub bytes_after_gate : List (List ℕ) → ℕ → ℕ → List ℕ
+bytes_after_gate units gate size = take size (flat_map (λ unit. unit) (slice_range units (gate + 1) (gate + 1 + byte_pages size)))
 
 -- What a place holds.
-abbrev pub content_of : List (List ℕ) → ℕ → Option Held → Content
-content_of units position None = missing
-content_of units position (Some held) = if held.gate.valid then bytes (bytes_behind units (gate_unit position held.place) held.gate.length) else invalid
+abbrev pub place_content : List (List ℕ) → ℕ → Option Held → Content
+place_content units position None = missing
+place_content units position (Some held) = if held.gate.valid then bytes (bytes_after_gate units (gate_unit position held.place) held.gate.length) else invalid
 
 -- The place to which its block is written next: the other one, or place 0 where both are empty.
 abbrev pub next_place : Option Held → ℕ
@@ -58,25 +58,25 @@ next_sequence None = 1
 next_sequence (Some held) = held.gate.sequence + 1
 
 -- The place has the last sequence number.
-abbrev pub is_last : Option Held → Bool
-is_last None = false
-is_last (Some held) = held.gate.sequence == 2 ^ 32 - 1
+abbrev pub has_last_sequence : Option Held → Bool
+has_last_sequence None = false
+has_last_sequence (Some held) = held.gate.sequence == 2 ^ 32 - 1
 
 -- What a block holds, its number being looked for from a position on.
 unfoldable pub value_from : ℕ → List ℕ → List (List ℕ) → ℕ → Content
 value_from position [] units block = missing
 value_from position (number ∷ numbers) units block =
-    if number == block then content_of units position (current units position) else value_from (position + 1) numbers units block
+    if number == block then place_content units position (current_place units position) else value_from (position + 1) numbers units block
 
 -- Some block has come to the last sequence number.
 unfoldable pub spent_from : ℕ → List ℕ → List (List ℕ) → Bool
 spent_from position [] units = false
-spent_from position (number ∷ numbers) units = is_last (current units position) || spent_from (position + 1) numbers units
+spent_from position (number ∷ numbers) units = has_last_sequence (current_place units position) || spent_from (position + 1) numbers units
 
 -- This block has.
 unfoldable pub stuck_from : ℕ → List ℕ → List (List ℕ) → ℕ → Bool
 stuck_from position [] units block = false
-stuck_from position (number ∷ numbers) units block = if number == block then is_last (current units position) else stuck_from (position + 1) numbers units block
+stuck_from position (number ∷ numbers) units block = if number == block then has_last_sequence (current_place units position) else stuck_from (position + 1) numbers units block
 
 -- A code word that is no gate, or the gate of another block.
 abbrev pub is_foreign_gate : ℕ → Option Gate → Bool
@@ -98,8 +98,8 @@ is_damaged number unit = is_foreign number (unsealed unit) || is_spoiled unit
 
 -- What the gate units of a block's two places say: the current place, or the first place that is damaged; at place 1 an equal
 -- sequence is damage too.
-abbrev pub judged : ℕ → List ℕ → List ℕ → Result (Option Held) ℕ
-judged number first second =
+abbrev pub judged_places : ℕ → List ℕ → List ℕ → Result (Option Held) ℕ
+judged_places number first second =
     if is_damaged number first then Err 0
     else if is_damaged number second || same_sequence (gate_in first) (gate_in second) then Err 1
     else Ok (newer (gate_in first) (gate_in second))
@@ -111,7 +111,7 @@ first_of position (Err place) later = Some (place, position)
 
 unfoldable pub damage_from : ℕ → List ℕ → List (List ℕ) → Option (ℕ × ℕ)
 damage_from position [] units = None
-damage_from position (number ∷ numbers) units = first_of position (judged number (gate_at units position 0) (gate_at units position 1)) (damage_from (position + 1) numbers units)
+damage_from position (number ∷ numbers) units = first_of position (judged_places number (gate_at units position 0) (gate_at units position 1)) (damage_from (position + 1) numbers units)
 
 -- The same of a device's image, which is one list of units.
 abbrev pub value_in : List ℕ → List (List (List ℕ)) → ℕ → Content

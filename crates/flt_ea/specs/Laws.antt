@@ -8,9 +8,9 @@ use Rattle.flt_flash.specs.State.{FlashState}
 use Rattle.flt_pages.proofs.Finding.{length_most}
 use Rattle.flt_pages.proofs.PageBytes.{flat, flat_size, range_pages, range_size}
 use Rattle.flt_ea.specs.State.{HasUnits}
-use Rattle.flt_ea.specs.Image.{gate_unit, bytes_behind, content_of, current, is_last, value_from, spent_from, stuck_from, value_in, is_spent_in, is_stuck_in}
+use Rattle.flt_ea.specs.Image.{gate_unit, bytes_after_gate, place_content, current_place, has_last_sequence, value_from, spent_from, stuck_from, value_in, is_spent_in, is_stuck_in}
 use Rattle.flt_ea.specs.declared.place.Held.{Held}
-use Rattle.flt_ea.specs.Proper.{IsHeld, current_held}
+use Rattle.flt_ea.specs.Proper.{IsHeldPlace, current_held}
 
 -- From one position on.
 module _ (P : ℕ → Type 0) (from : ℕ) where
@@ -29,11 +29,11 @@ module _ (P : ℕ → Type 0) (from : ℕ) where
 module _ (units : List (List ℕ)) where
   -- What the current place of a position holds.
   abbrev content_at : ℕ → Content
-  content_at position = content_of units position (current units position)
+  content_at position = place_content units position (current_place units position)
 
   -- It has the last sequence number.
   abbrev last_at : ℕ → Bool
-  last_at position = is_last (current units position)
+  last_at position = has_last_sequence (current_place units position)
 
   pub value_first : (from number : ℕ) (numbers : List ℕ) (block : ℕ)
       → value_from from (number ∷ numbers) units block ≡ (if number == block then content_at from else value_from (from + 1) numbers units block)
@@ -100,7 +100,7 @@ module _ (device : FlashState) (shape : HasUnits device) where
   units = sector_at device.image 0
 
   -- So many bytes stand behind a gate, where so many units do.
-  pub size_behind : (gate size : ℕ) → gate + 1 + byte_pages size ≤ length units → length (bytes_behind units gate size) ≡ size
+  pub size_behind : (gate size : ℕ) → gate + 1 + byte_pages size ≤ length units → length (bytes_after_gate units gate size) ≡ size
   size_behind gate size room =
       let to = gate + 1 + byte_pages size in
       let range : List (List ℕ) = slice_range units (gate + 1) to in
@@ -108,22 +108,22 @@ module _ (device : FlashState) (shape : HasUnits device) where
       omega (arith, length-take size (flat range), flat_size range (range_pages units (gate + 1) to room shape.bytes), many)
 
   -- As many bytes stand behind a gate as it says.
-  pub held_size : (position : ℕ) (held : Held) → 10 * position + 10 ≤ device.pages → IsHeld held → length (bytes_behind units (gate_unit position held.place) held.gate.length) ≡ held.gate.length
+  pub held_size : (position : ℕ) (held : Held) → 10 * position + 10 ≤ device.pages → IsHeldPlace held → length (bytes_after_gate units (gate_unit position held.place) held.gate.length) ≡ held.gate.length
   held_size position held room proper =
       let most = length_most held.gate.valid held.gate.length proper.gate.kind in
       let place = proper.place in
       size_behind (gate_unit position held.place) held.gate.length (omega (arith, shape.units))
 
-  short_at : (position : ℕ) → 10 * position + 10 ≤ device.pages → (found : Option Held) → current units position ≡ found → size_of (content_of units position found) ≤ 128
+  short_at : (position : ℕ) → 10 * position + 10 ≤ device.pages → (found : Option Held) → current_place units position ≡ found → size_of (place_content units position found) ≤ 128
   short_at position room None is = omega arith
   short_at position room (Some held) is = by_valid held.gate.valid
     where
-      proper : IsHeld held
+      proper : IsHeldPlace held
       proper = current_held units position held is
 
-      by_valid : (valid : Bool) → size_of (if valid then bytes (bytes_behind units (gate_unit position held.place) held.gate.length) else invalid) ≤ 128
+      by_valid : (valid : Bool) → size_of (if valid then bytes (bytes_after_gate units (gate_unit position held.place) held.gate.length) else invalid) ≤ 128
       by_valid true = omega (arith, held_size position held room proper, length_most held.gate.valid held.gate.length proper.gate.kind)
       by_valid false = omega arith
 
 pub value_is_short : (numbers : List ℕ) (device : FlashState) → HasUnits device → 10 * length numbers ≤ device.pages → (block : ℕ) → IsShort (value_in numbers device.image block)
-value_is_short numbers device shape within block = short_all (sector_at device.image 0) 0 numbers block (λ k lt. short_at device shape (0 + k) (omega arith) (current (sector_at device.image 0) (0 + k)) refl)
+value_is_short numbers device shape within block = short_all (sector_at device.image 0) 0 numbers block (λ k lt. short_at device shape (0 + k) (omega arith) (current_place (sector_at device.image 0) (0 + k)) refl)

@@ -8,8 +8,8 @@ use Rattle.flt_flash.specs.Power.{PowerState, power_state}
 use Rattle.flt_ea.specs.declared.memory.EepromMem.{EepromMem}
 
 -- The device as every user of an EEPROM sees it.
-abbrev pub state_of : EepromMem → FlashState
-state_of device = record {
+abbrev pub eeprom_state : EepromMem → FlashState
+eeprom_state device = record {
   pages = length (all_pages device.units);
   image = all_pages device.units ∷ [];
   is_off = device.power.is_off;
@@ -25,5 +25,5 @@ state_of device = record {
 }
 
 -- Its power, and the arms that stand.
-abbrev pub power_of : EepromMem → PowerState
-power_of device = power_state device.power
+abbrev pub eeprom_power : EepromMem → PowerState
+eeprom_power device = power_state device.power

@@ -10,8 +10,8 @@ abbrev pub unit_at : List (List (List ℕ)) → ℕ → List ℕ
 unit_at image unit = page_at image 0 unit
 
 -- The image with these bytes in place of one unit.
-abbrev pub written : List (List (List ℕ)) → ℕ → List ℕ → List (List (List ℕ))
-written image unit bytes = programmed image 0 unit bytes
+abbrev pub with_unit : List (List (List ℕ)) → ℕ → List ℕ → List (List (List ℕ))
+with_unit image unit bytes = programmed image 0 unit bytes
 
 -- The image is one list of this many units of 32 bytes.
 pub record HasUnits (state : FlashState) : Type 0 where

@@ -3,10 +3,10 @@ ghost use Rattle.std.specs.Prelude.{◌≡◌, ◌≢◌, ◌+◌, ◌<◌, ◌�
 ghost use Rattle.std.specs.List.{AllPairs};
 ghost use Rattle.flt_flash.specs.Blocks.{byte_pages, device_of, record_pages};
 ghost use Rattle.flt_flash.specs.Content.{invalid, bytes as holding, size_of};
-ghost use Rattle.flt_flash.specs.Calls.{Calls, CountsCallOf, CountsMount, Changes, Costs, MountCosts, ReadCosts, NeverFull, ReadsAlone, ReadsContent, SameImage, SameSpent, SameValues, Settles};
+ghost use Rattle.flt_flash.specs.Calls.{BlockCalls, CountsCallOf, CountsMount, Changes, Costs, MountCosts, ReadCosts, NeverFull, ReadsAlone, ReadsContent, SameImage, SameSpent, SameValues, Settles};
 ghost use Rattle.flt_flash.specs.declared.blocks.BlockFault.TheVariants.{Flash};
 ghost use Rattle.flt_code.specs.Word.{is_length};
-ghost use Rattle.flt_pages.specs.LogHolds.{asked_of};
+ghost use Rattle.flt_pages.specs.LogHolds.{record_content};
 ghost use Rattle.flt_ea.specs.Image.{gate_unit, is_stuck_in};
 ghost use Rattle.flt_ea.specs.Mounted.{IsMounted};
 ghost use Rattle.flt_ea.specs.Refusal.{AnswersBy};
@@ -69,7 +69,7 @@ pub struct Ea<E: Eeprom> {
 
 impl<E: Eeprom> Ea<E> {
     ghost use Rattle.flt_ea.specs.Driver.{state_by};
-    ghost use Rattle.flt_ea.specs.Ea.{state_of, uncounted_of};
+    ghost use Rattle.flt_ea.specs.Ea.{ea_state, uncounted_of};
 
     /// A driver over this device for these block numbers. It is stale, and has not mounted. It takes the memory of a place and of
     /// a row of the index for each number, and no other call takes any. At `Err` there was not enough memory: the device comes back as it was, and
@@ -77,7 +77,7 @@ impl<E: Eeprom> Ea<E> {
     pub fn make(alloc: Global, device: E, numbers: Vec<u16>) -> Result<Ea<E>, Refused<E>>
         requires units { 10 * length numbers.items ≤ (E.state device).pages }
         requires distinct { AllPairs (λ a b. a ≢ b) numbers.items }
-        ensures made { IfOk result (λ ea. state_of E.state ea ≡ state_by numbers.items true false (E.state device)) }
+        ensures made { IfOk result (λ ea. ea_state E.state ea ≡ state_by numbers.items true false (E.state device)) }
         ensures refused { IfErr result (λ refused. refused.device ≡ device) }
     {
         match tables(alloc, numbers) {
@@ -95,7 +95,7 @@ impl<E: Eeprom> Ea<E> {
 
     /// The device, as the driver left it.
     pub fn retire(self) -> E
-        ensures { device_of (E.state result) ≡ (state_of E.state self).device }
+        ensures { device_of (E.state result) ≡ (ea_state E.state self).device }
     {
         self.device
     }
@@ -103,7 +103,7 @@ impl<E: Eeprom> Ea<E> {
     /// Looks at the device as a power-up left it: each gate is read once, and nothing is written.
     fn look(&mut self) -> Result<(), BlockFault>
         ensures values { SameValues (uncounted_of E.state self.old) (uncounted_of E.state self.new) }
-        ensures calls { Calls (uncounted_of E.state self.old) (uncounted_of E.state self.new) result }
+        ensures calls { BlockCalls (uncounted_of E.state self.old) (uncounted_of E.state self.new) result }
         ensures count { self.new.tally ≡ self.old.tally }
         ensures never_full { NeverFull result }
         ensures stale { Settles result (uncounted_of E.state self.new) }
@@ -120,7 +120,7 @@ impl<E: Eeprom> Ea<E> {
     /// Mounts a stale driver.
     fn settle(&mut self) -> Result<(), BlockFault>
         ensures values { SameValues (uncounted_of E.state self.old) (uncounted_of E.state self.new) }
-        ensures calls { Calls (uncounted_of E.state self.old) (uncounted_of E.state self.new) result }
+        ensures calls { BlockCalls (uncounted_of E.state self.old) (uncounted_of E.state self.new) result }
         ensures count { self.new.tally ≡ self.old.tally }
         ensures never_full { NeverFull result }
         ensures stale { Settles result (uncounted_of E.state self.new) }
@@ -146,8 +146,8 @@ impl<E: Eeprom> Ea<E> {
         requires number { Contains (uncounted_of E.state self.old).numbers block }
         requires most { length bytes.now ≤ 128 }
         requires length { is_length valid (length bytes.now) ≡ true }
-        ensures changes { Changes (uncounted_of E.state self.old) (uncounted_of E.state self.new) block (asked_of valid bytes.now) (length bytes.now) result }
-        ensures calls { Calls (uncounted_of E.state self.old) (uncounted_of E.state self.new) result }
+        ensures changes { Changes (uncounted_of E.state self.old) (uncounted_of E.state self.new) block (record_content valid bytes.now) (length bytes.now) result }
+        ensures calls { BlockCalls (uncounted_of E.state self.old) (uncounted_of E.state self.new) result }
         ensures count { self.new.tally ≡ self.old.tally }
         ensures stale { Settles result (uncounted_of E.state self.new) }
         ensures answers { AnswersBy (is_stuck_in (uncounted_of E.state self.old).numbers (E.state self.old.device).image block) result }
@@ -178,8 +178,8 @@ impl<E: Eeprom> Ea<E> {
         requires number { Contains (uncounted_of E.state self.old).numbers block }
         requires most { length bytes.now ≤ 128 }
         requires length { is_length valid (length bytes.now) ≡ true }
-        ensures changes { Changes (uncounted_of E.state self.old) (uncounted_of E.state self.new) block (asked_of valid bytes.now) (length bytes.now) result }
-        ensures calls { Calls (uncounted_of E.state self.old) (uncounted_of E.state self.new) result }
+        ensures changes { Changes (uncounted_of E.state self.old) (uncounted_of E.state self.new) block (record_content valid bytes.now) (length bytes.now) result }
+        ensures calls { BlockCalls (uncounted_of E.state self.old) (uncounted_of E.state self.new) result }
         ensures count { self.new.tally ≡ self.old.tally }
         ensures stale { Settles result (uncounted_of E.state self.new) }
         ensures answers { AnswersBy (is_stuck_in (uncounted_of E.state self.old).numbers (E.state self.old.device).image block) result }
@@ -195,7 +195,7 @@ impl<E: Eeprom> Ea<E> {
         requires number { Contains (uncounted_of E.state self.old).numbers block }
         ensures found { IfOk result (λ found. ReadsContent ((uncounted_of E.state self.old).value block) found out.old out.new) }
         ensures nothing { OnErr result (out.new ≡ out.old) }
-        ensures calls { Calls (uncounted_of E.state self.old) (uncounted_of E.state self.new) result }
+        ensures calls { BlockCalls (uncounted_of E.state self.old) (uncounted_of E.state self.new) result }
         ensures count { self.new.tally ≡ self.old.tally }
         ensures never_full { NeverFull result }
         ensures stale { IsFalse (uncounted_of E.state self.new).is_stale }
@@ -230,10 +230,10 @@ impl<E: Eeprom> Ea<E> {
 }
 
 impl<E: Eeprom> Blocks for Ea<E> {
-    ghost use Rattle.flt_ea.specs.Ea.{state_of};
+    ghost use Rattle.flt_ea.specs.Ea.{ea_state};
     ghost use Rattle.flt_ea.specs.Laws.{stuck_is_spent, value_is_short};
 
-    ghost state = { state_of E.state };
+    ghost state = { ea_state E.state };
 
     ghost stuck_is_spent = { λ driver block size. stuck_is_spent driver.numbers (E.state driver.device).image block };
 
@@ -244,33 +244,33 @@ impl<E: Eeprom> Blocks for Ea<E> {
     ghost bytes_are_short = { λ driver block. value_is_short driver.numbers (E.state driver.device) (E.shape driver.device) driver.within block };
 
     fn mount(&mut self) -> Result<(), BlockFault>
-        ensures values { SameValues (state_of E.state self.old) (state_of E.state self.new) }
-        ensures calls { Calls (state_of E.state self.old) (state_of E.state self.new) result }
-        ensures once { CountsMount (state_of E.state self.old) (state_of E.state self.new) }
+        ensures values { SameValues (ea_state E.state self.old) (ea_state E.state self.new) }
+        ensures calls { BlockCalls (ea_state E.state self.old) (ea_state E.state self.new) result }
+        ensures once { CountsMount (ea_state E.state self.old) (ea_state E.state self.new) }
         ensures never_full { NeverFull result }
-        ensures stale { Settles result (state_of E.state self.new) }
-        ensures spent { SameSpent (state_of E.state self.old) (state_of E.state self.new) }
-        ensures costs { MountCosts (state_of E.state self.old) (state_of E.state self.new) }
+        ensures stale { Settles result (ea_state E.state self.new) }
+        ensures spent { SameSpent (ea_state E.state self.old) (ea_state E.state self.new) }
+        ensures costs { MountCosts (ea_state E.state self.old) (ea_state E.state self.new) }
 
         // It writes nothing.
-        ensures image { SameImage (state_of E.state self.old) (state_of E.state self.new) }
+        ensures image { SameImage (ea_state E.state self.old) (ea_state E.state self.new) }
     {
         self.tally.count();
         self.look()
     }
 
     fn write(&mut self, block: u16, bytes: &[u8]) -> Result<(), BlockFault>
-        requires number { Contains (state_of E.state self.old).numbers block }
+        requires number { Contains (ea_state E.state self.old).numbers block }
         requires least { 1 ≤ length bytes.now }
         requires most { length bytes.now ≤ 128 }
-        ensures changes { Changes (state_of E.state self.old) (state_of E.state self.new) block (holding bytes.now) (length bytes.now) result }
-        ensures calls { Calls (state_of E.state self.old) (state_of E.state self.new) result }
-        ensures once { CountsCallOf block (state_of E.state self.old) (state_of E.state self.new) result }
-        ensures stale { Settles result (state_of E.state self.new) }
-        ensures costs { Costs (state_of E.state self.old) (state_of E.state self.new) (length bytes.now) }
+        ensures changes { Changes (ea_state E.state self.old) (ea_state E.state self.new) block (holding bytes.now) (length bytes.now) result }
+        ensures calls { BlockCalls (ea_state E.state self.old) (ea_state E.state self.new) result }
+        ensures once { CountsCallOf block (ea_state E.state self.old) (ea_state E.state self.new) result }
+        ensures stale { Settles result (ea_state E.state self.new) }
+        ensures costs { Costs (ea_state E.state self.old) (ea_state E.state self.new) (length bytes.now) }
 
         // It is refused exactly where its block has no sequence number left.
-        ensures answers { AnswersBy (is_stuck_in (state_of E.state self.old).numbers (E.state self.old.device).image block) result }
+        ensures answers { AnswersBy (is_stuck_in (ea_state E.state self.old).numbers (E.state self.old.device).image block) result }
     {
         self.tally.count();
         let answer = self.put(block, bytes, true);
@@ -294,15 +294,15 @@ impl<E: Eeprom> Blocks for Ea<E> {
     }
 
     fn invalidate(&mut self, block: u16) -> Result<(), BlockFault>
-        requires { Contains (state_of E.state self.old).numbers block }
-        ensures changes { Changes (state_of E.state self.old) (state_of E.state self.new) block invalid 0 result }
-        ensures calls { Calls (state_of E.state self.old) (state_of E.state self.new) result }
-        ensures once { CountsCallOf block (state_of E.state self.old) (state_of E.state self.new) result }
-        ensures stale { Settles result (state_of E.state self.new) }
-        ensures costs { Costs (state_of E.state self.old) (state_of E.state self.new) 0 }
+        requires { Contains (ea_state E.state self.old).numbers block }
+        ensures changes { Changes (ea_state E.state self.old) (ea_state E.state self.new) block invalid 0 result }
+        ensures calls { BlockCalls (ea_state E.state self.old) (ea_state E.state self.new) result }
+        ensures once { CountsCallOf block (ea_state E.state self.old) (ea_state E.state self.new) result }
+        ensures stale { Settles result (ea_state E.state self.new) }
+        ensures costs { Costs (ea_state E.state self.old) (ea_state E.state self.new) 0 }
 
         // It is refused exactly where its block has no sequence number left.
-        ensures answers { AnswersBy (is_stuck_in (state_of E.state self.old).numbers (E.state self.old.device).image block) result }
+        ensures answers { AnswersBy (is_stuck_in (ea_state E.state self.old).numbers (E.state self.old.device).image block) result }
     {
         self.tally.count();
         let answer = self.put(block, &[], false);

@@ -2,7 +2,7 @@
 ghost use Rattle.std.specs.Prelude.{◌≡◌, ◌<◌, OnOk, OnErr};
 ghost use Rattle.flt_flash.specs.Tearing.{IsTorn};
 ghost use Rattle.flt_flash.specs.State.{FlashState, Operates, CanArm, Arms, PowersUp};
-ghost use Rattle.flt_ea.specs.State.{HasUnits, unit_at, written};
+ghost use Rattle.flt_ea.specs.State.{HasUnits, unit_at, with_unit};
 
 use flt_flash::{Arm, FlashFailed};
 
@@ -28,8 +28,8 @@ pub trait Eeprom {
     /// Writes a unit, whatever it held. At `Err` each of its bits is as before or as asked: write it again.
     fn write_unit(&mut self, unit: u16, bytes: &[u8; 32]) -> Result<(), FlashFailed>
         requires { unit < (state self.old).pages }
-        ensures written { OnOk result ((state self.new).image ≡ written (state self.old).image unit bytes.now) }
-        ensures torn { OnErr result (IsTorn (state self.old).image (written (state self.old).image unit bytes.now) (state self.new).image) }
+        ensures written { OnOk result ((state self.new).image ≡ with_unit (state self.old).image unit bytes.now) }
+        ensures torn { OnErr result (IsTorn (state self.old).image (with_unit (state self.old).image unit bytes.now) (state self.new).image) }
         ensures operation { Operates (state self.old) (state self.new) result };
 
     /// How many reads and writes were made, failed ones too. It stays at 2^64 - 1.

@@ -2,7 +2,7 @@
 ghost use Rattle.std.specs.Prelude.{◌≡◌, ◌≢◌, Some, IfSome, IfNone};
 ghost use Rattle.flt_code.specs.Word.{is_length};
 ghost use Rattle.flt_ea.specs.declared.gate.Gate.{Gate};
-ghost use Rattle.flt_ea.specs.Gate.{IsGate, IsGateOf, gate_bytes, candidate, gate_of};
+ghost use Rattle.flt_ea.specs.Gate.{IsGate, IsGateOf, gate_bytes, gate_candidate, gate_of};
 
 /// `45`, `01` where it is valid and `02` where not, block, length, sequence, big-endian, filled up with bytes 0: the
 /// place holds so many bytes of this block. A valid one has 1 to 128 bytes, an invalid one none.
@@ -45,9 +45,9 @@ fn is_length(valid: bool, length: u16) -> bool
 }
 
 /// The gate that the fields would give.
-#[tactic(auto, unfolding(crate::specs::Gate::candidate))]
+#[tactic(auto, unfolding(crate::specs::Gate::gate_candidate))]
 fn candidate(bytes: &[u8; 16]) -> Option<Gate>
-    ensures read { result ≡ candidate bytes.now }
+    ensures read { result ≡ gate_candidate bytes.now }
     ensures proper { IfSome result IsGate }
 {
     let [_tag, kind, a, b, c, d, e, f, g, h, ..] = *bytes;

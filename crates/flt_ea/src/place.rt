@@ -1,7 +1,7 @@
 //! What the gate units of a block's two places say.
 ghost use Rattle.std.specs.Prelude.{◌≡◌, false};
 ghost use Rattle.std.specs.List.{list_any};
-ghost use Rattle.flt_ea.specs.Image.{gate_in, newer, same_sequence, is_foreign, is_damaged, is_last, judged, next_place, next_sequence};
+ghost use Rattle.flt_ea.specs.Image.{gate_in, newer, same_sequence, is_foreign, is_damaged, has_last_sequence, judged_places, next_place, next_sequence};
 
 use crate::{Gate, get_gate};
 use flt_code::{is_spoiled, unseal};
@@ -75,7 +75,7 @@ fn is_damaged(number: u16, unit: &[u8; 32]) -> bool
 
 /// Whether no further sequence number is left behind a block's current place.
 pub(crate) fn is_last(held: Option<Held>) -> bool
-    ensures { result ≡ is_last held }
+    ensures { result ≡ has_last_sequence held }
 {
     match held {
         None => false,
@@ -85,7 +85,7 @@ pub(crate) fn is_last(held: Option<Held>) -> bool
 
 /// Whether some block has no further sequence number.
 pub(crate) fn some_is_last(table: &[Option<Held>]) -> bool
-    ensures { result ≡ list_any is_last table.now }
+    ensures { result ≡ list_any has_last_sequence table.now }
 {
     table.iter().any(|held| is_last(*held))
 }
@@ -103,7 +103,7 @@ pub(crate) fn next_place(held: Option<Held>) -> u8
 
 /// The sequence number of that write, where one is left.
 pub(crate) fn next_sequence(held: Option<Held>) -> u32
-    requires { is_last held ≡ false }
+    requires { has_last_sequence held ≡ false }
     ensures { result ≡ next_sequence held }
 {
     match held {
@@ -114,7 +114,7 @@ pub(crate) fn next_sequence(held: Option<Held>) -> u32
 
 /// The current place of a block by the gate units of its two places; the error is the first one that is damaged.
 pub fn judge(number: u16, first: &[u8; 32], second: &[u8; 32]) -> Result<Option<Held>, u8>
-    ensures { result ≡ judged number first.now second.now }
+    ensures { result ≡ judged_places number first.now second.now }
 {
     if is_damaged(number, first) {
         return Err(0);

@@ -6,7 +6,7 @@ ghost use Rattle.flt_flash.specs.State.{HasRisenBy, OnlyReads};
 ghost use Rattle.flt_code.specs.Spoiled.{is_spoiled};
 ghost use Rattle.flt_pages.specs.Recorded.{Fills};
 ghost use Rattle.flt_ea.specs.Gate.{IsGate};
-ghost use Rattle.flt_ea.specs.Image.{bytes_behind};
+ghost use Rattle.flt_ea.specs.Image.{bytes_after_gate};
 ghost use Rattle.flt_ea.specs.State.{unit_at};
 ghost use Rattle.flt_ea.specs.Written.{WritesRecord};
 
@@ -24,7 +24,7 @@ pub(crate) fn read_bytes<E: Eeprom>(
 ) -> Result<(), FlashFailed>
     requires most { size ≤ 128 }
     requires room { gate + 1 + byte_pages size ≤ (E.state device.old).pages }
-    ensures read { OnOk result (out.new ≡ bytes_behind (sector_at (E.state device.old).image 0) gate size ++ drop size out.old) }
+    ensures read { OnOk result (out.new ≡ bytes_after_gate (sector_at (E.state device.old).image 0) gate size ++ drop size out.old) }
     ensures nothing { OnErr result (out.new ≡ out.old) }
     ensures operations { OnOk result ((E.state device.new).operations ≤ (E.state device.old).operations + byte_pages size) }
     ensures reads { OnlyReads (E.state device.old) (E.state device.new) }

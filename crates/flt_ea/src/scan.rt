@@ -4,7 +4,7 @@ ghost use Rattle.flt_flash.specs.declared.blocks.BlockFault.TheVariants.{Flash, 
 ghost use Rattle.flt_flash.specs.Calls.{NeverFull};
 ghost use Rattle.flt_flash.specs.Image.{sector_at};
 ghost use Rattle.flt_flash.specs.State.{HasRisenBy, OnlyReads};
-ghost use Rattle.flt_ea.specs.Image.{gate_at, judged, damage_in};
+ghost use Rattle.flt_ea.specs.Image.{gate_at, judged_places, damage_in};
 ghost use Rattle.flt_ea.specs.Scan.{IsTable};
 
 use crate::{Eeprom, Held, judge};
@@ -21,7 +21,7 @@ pub(crate) fn look<E: Eeprom>(
     ensures reads { OnlyReads (E.state device.old) (E.state device.new) }
     ensures operations { (E.state device.new).operations ≤ (E.state device.old).operations + 2 }
     ensures failed { OnErr result (HasRisenBy 1 (E.state device.old).faults (E.state device.new).faults) }
-    ensures judged { IfOk result (λ found. found ≡ judged number
+    ensures judged { IfOk result (λ found. found ≡ judged_places number
         (gate_at (sector_at (E.state device.old).image 0) position 0) (gate_at (sector_at (E.state device.old).image 0) position 1)) }
 {
     let mut first = [0; 32];

@@ -3,5 +3,5 @@ use Rattle.std.specs.Prelude.{ℕ, List}
 use Rattle.flt_embed.specs.declared.diary.Diary.{Diary}
 
 -- The bytes that it keeps.
-abbrev pub bytes_of : Diary → List ℕ
-bytes_of diary = diary.bytes.items
+abbrev pub diary_bytes : Diary → List ℕ
+diary_bytes diary = diary.bytes.items

@@ -5,7 +5,7 @@ use Rattle.flt_dcm.specs.Unit.{UnitView, Answers, Takes}
 use Rattle.flt_queue.specs.declared.job.QueueOp.{QueueOp}
 use Rattle.flt_queue.specs.declared.queue.JobQueue.{JobQueue}
 use Rattle.flt_queue.specs.Queue.{History, answer_q}
-use Rattle.flt_queue.specs.Stands.{Stands}
+use Rattle.flt_queue.specs.Stands.{QueueStands}
 use Rattle.flt_life_model.specs.Answers.{Told}
 use Rattle.flt_life_model.specs.declared.action.Action.{Action}
 use Rattle.flt_life_model.specs.declared.action.Action.TheVariants as actions
@@ -32,7 +32,7 @@ IsOfQueue jobs op (answers.Queue told) = told.reply ≡ answer_q jobs op
 IsOfQueue jobs op _ = ⊥
 
 abbrev pub QueueTakes : ℕ → QueueOp → JobQueue → JobQueue → Told → Type 0
-QueueTakes blocks op before after told = (jobs : History) → Stands blocks jobs before → Stands blocks (op ∷ jobs) after × IsOfQueue jobs op told
+QueueTakes blocks op before after told = (jobs : History) → QueueStands blocks jobs before → QueueStands blocks (op ∷ jobs) after × IsOfQueue jobs op told
 
 -- The operations that are handed out, carried out in order on the image before, give the image after.
 abbrev pub HandsOut : Memory → Memory → Type 0
@@ -45,10 +45,10 @@ IsSaved (answers.SaveFailed fault) after = Unit {0}
 IsSaved _ after = ⊥
 
 -- What a step came to, by what it does.
-abbrev pub IsMade : Action → Told → Memory → Memory → Type 0
-IsMade (actions.Call op) told before after = Takes op before.unit after.unit × IsOfMachine op before.unit told
-IsMade (actions.Queue op) told before after = (after.unit ≡ before.unit) × QueueTakes before.config.blocks op before.queue after.queue told
-IsMade actions.Save told before after = IsSaved told after
-IsMade actions.Drain told before after = after.unit ≡ before.unit
-IsMade (actions.Get block) told before after = (after.unit ≡ before.unit) × (after.queue ≡ before.queue)
-IsMade (actions.Arm arm) told before after = ⊥
+abbrev pub IsStepMade : Action → Told → Memory → Memory → Type 0
+IsStepMade (actions.Call op) told before after = Takes op before.unit after.unit × IsOfMachine op before.unit told
+IsStepMade (actions.Queue op) told before after = (after.unit ≡ before.unit) × QueueTakes before.config.blocks op before.queue after.queue told
+IsStepMade actions.Save told before after = IsSaved told after
+IsStepMade actions.Drain told before after = after.unit ≡ before.unit
+IsStepMade (actions.Get block) told before after = (after.unit ≡ before.unit) × (after.queue ≡ before.queue)
+IsStepMade (actions.Arm arm) told before after = ⊥

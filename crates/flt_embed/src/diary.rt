@@ -1,7 +1,7 @@
 //! The bytes of a flash, with a list of what was done to them.
 ghost use Rattle.std.specs.Prelude.{◌≡◌, ◌+◌, ◌≤◌, Some, length};
 ghost use Rattle.flt_file.specs.Bytes.{spliced};
-ghost use Rattle.flt_embed.specs.Diary.{bytes_of};
+ghost use Rattle.flt_embed.specs.Diary.{diary_bytes};
 
 use crate::operation::Operation;
 use flt_file::{ByteStore, StoreFault};
@@ -19,7 +19,7 @@ pub(crate) struct Diary {
 impl Diary {
     /// These bytes, with room for some operations, of which none was done yet.
     pub(crate) fn new(bytes: Vec<u8>, pages: u16, operations: Vec<Operation>) -> Diary
-        ensures { bytes_of result ≡ bytes.items }
+        ensures { diary_bytes result ≡ bytes.items }
     {
         Diary {
             bytes,
@@ -30,7 +30,7 @@ impl Diary {
 
     /// The bytes as the writes left them, and the operations in their order.
     pub(crate) fn into_parts(self) -> (Vec<u8>, Vec<Operation>)
-        ensures { result.0.items ≡ bytes_of self }
+        ensures { result.0.items ≡ diary_bytes self }
     {
         let Diary {
             bytes,
@@ -81,7 +81,7 @@ fn overwrite(bytes: &mut Vec<u8>, at: usize, new: &[u8])
 }
 
 impl ByteStore for Diary {
-    ghost told = { λ diary. Some (bytes_of diary) };
+    ghost told = { λ diary. Some (diary_bytes diary) };
 
     fn read(&mut self, out: &mut [u8]) -> Result<(), StoreFault> {
         out.copy_from_slice(&self.bytes);

@@ -94,7 +94,7 @@ fn serves(dids: &DidTable<DID_ROWS>, config: &ValidConfig) -> bool
 }
 
 impl Memory {
-    ghost use Rattle.flt_embed.specs.Made.{HandsOut, IsMade, IsOfQueue, ChangesNothing, IsOfMachine, IsSaved, QueueTakes};
+    ghost use Rattle.flt_embed.specs.Made.{HandsOut, IsStepMade, IsOfQueue, ChangesNothing, IsOfMachine, IsSaved, QueueTakes};
 
     /// Makes the power come, over the given image, or over a blank one. The bytes of an image are those of its two sectors, page behind
     /// page, sector 0 first. The table has each data identifier of the configuration.
@@ -315,7 +315,7 @@ impl Memory {
 
     /// Makes a call of the queue.
     fn post(&mut self, op: &QueueOp) -> StepAnswer<ReplyKind>
-        requires admitted { jobs.IsAdmitted self.old.config.blocks op.now }
+        requires admitted { jobs.IsQueueCallFor self.old.config.blocks op.now }
         ensures takes { QueueTakes self.old.config.blocks op.now self.old.queue self.new.queue (told_with self.new.buffers.response.items result) }
         ensures unit { self.new.unit ≡ self.old.unit }
         ensures image { self.new.image ≡ self.old.image }
@@ -396,7 +396,7 @@ impl Memory {
         step: Step,
     ) -> Result<(), Fault>
         ensures up { OnOk result (self.old.stage ≡ Up) }
-        ensures made { OnOk result ((told : Told) × (self.new.line.items ≡ step_line step told) × IsMade (action_of step) told self.old self.new) }
+        ensures made { OnOk result ((told : Told) × (self.new.line.items ≡ step_line step told) × IsStepMade (action_of step) told self.old self.new) }
         ensures carried { OnOk result (HandsOut self.old self.new) }
         ensures refused { IfErr result (λ fault. ChangesNothing fault → self.new ≡ self.old) }
     {

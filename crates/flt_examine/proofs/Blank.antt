@@ -1,17 +1,17 @@
 -- A run over a blank flash, as its source and its flash tell.
 use Rattle.std.proofs.Common.{◌≡◌, ◌≢◌, ℕ, List, Option, Some, subst}
 use Rattle.flt_config.specs.declared.config.DidUse.{DidUse}
-use Rattle.flt_flash.specs.Memory.{state_of}
+use Rattle.flt_flash.specs.Memory.{flash_state}
 use Rattle.flt_flash.specs.State.{FlashState}
 use Rattle.flt_flash.specs.declared.memory.FlashMem.{FlashMem}
 use Rattle.flt_lives.specs.Media.{sectors}
 use Rattle.flt_run.specs.declared.command.Command.TheVariants.{Run}
 use Rattle.flt_run.specs.declared.running.Outcome.{Outcome}
-use Rattle.flt_run.specs.Ending.{Inside, Runs}
+use Rattle.flt_run.specs.Ending.{RunInside, Runs}
 use Rattle.flt_examine.specs.Traced.{RunsOnBlank, blank_flash, no_outside}
 
 -- The inside of a run that reads these bytes, over a flash.
-abbrev pub inside_over : List ℕ → Option (List ℕ) → FlashState → FlashMem → Inside
+abbrev pub inside_over : List ℕ → Option (List ℕ) → FlashState → FlashMem → RunInside
 inside_over bytes left device flash = record {
   left = Some bytes;
   left_after = left;
@@ -19,7 +19,7 @@ inside_over bytes left device flash = record {
   read_faults_after = 0;
   media = sectors;
   device = device;
-  device_after = state_of flash;
+  device_after = flash_state flash;
 }
 
 module _ (dids : List DidUse) (left : Option (List ℕ)) (outcome : Outcome FlashMem) where

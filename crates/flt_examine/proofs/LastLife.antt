@@ -9,7 +9,7 @@ use Rattle.flt_io.specs.Fault.{Rose}
 use Rattle.flt_flash.specs.Content.{Content, missing, invalid}
 use Rattle.flt_flash.specs.Content as content
 use Rattle.flt_flash.specs.Blocks.{device_of}
-use Rattle.flt_flash.specs.Memory.{state_of}
+use Rattle.flt_flash.specs.Memory.{flash_state}
 use Rattle.flt_flash.specs.State.{PowerUp}
 use Rattle.flt_flash.specs.declared.arm.ArmMade.{ArmMade}
 use Rattle.flt_flash.specs.declared.memory.FlashMem.{FlashMem}
@@ -40,7 +40,7 @@ use Rattle.flt_life_model.specs.Statuses.{status_by, status_of_lives}
 use Rattle.flt_lives.specs.Media.{sectors}
 use Rattle.flt_store.specs.Store.{numbered}
 use Rattle.flt_script.specs.Fetched.{read_of}
-use Rattle.flt_run.specs.Ending.{AreLived, EndingHasCause, Inside, IsTold, IsToldOf, WorksOn, lives_of, status_of}
+use Rattle.flt_run.specs.Ending.{AreLived, EndingHasCause, RunInside, IsRunTold, IsRunToldOf, WorksOn, lives_of, ending_status}
 use Rattle.flt_run.specs.declared.command.Command.TheVariants.{Run}
 use Rattle.flt_run.specs.declared.running.Outcome.{Outcome}
 use Rattle.flt_trace.specs.Laws.{IsLifeInRange}
@@ -56,7 +56,7 @@ never_rose rose = absurd (omega (arith, rose))
 pub record HasRun (dids : List DidUse) (bytes : List ℕ) (outcome : Outcome FlashMem) (script : ScriptContent) : Type 0 where
   pub given : IsGiven script.config
   pub is : script_of dids (read_of bytes) ≡ Ok script
-  pub lived : AreLived sectors script blank_flash (state_of outcome.device) outcome.lives.items
+  pub lived : AreLived sectors script blank_flash (flash_state outcome.device) outcome.lives.items
   pub status : outcome.status ≡ status_of_lives (lives_seen script.lives outcome.lives.items)
 
 -- Or the bytes are no script.
@@ -66,31 +66,31 @@ ComesTo dids bytes outcome =
     ⊎ ((outcome.status ≢ 0) × ((script : ScriptContent) → script_of dids (read_of bytes) ≡ Ok script → ⊥))
 
 module _ (dids : List DidUse) (bytes : List ℕ) (left : Option (List ℕ)) (outcome : Outcome FlashMem) where
-  abbrev inside : Inside
+  abbrev inside : RunInside
   inside = inside_on bytes left outcome.device
 
   -- Where a script was worked on, its lives were made.
   script_lived : (script : ScriptContent) (e : _) → EndingHasCause dids inside (Some Run) (Some script) e
-      → AreLived sectors script blank_flash (state_of outcome.device) (lives_of e)
+      → AreLived sectors script blank_flash (flash_state outcome.device) (lives_of e)
   script_lived script e cause = grind arith
 
   script_status : (script : ScriptContent) (e : _) → EndingHasCause dids inside (Some Run) (Some script) e
-      → status_of e ≡ status_of_lives (lives_seen script.lives (lives_of e))
+      → ending_status e ≡ status_of_lives (lives_seen script.lives (lives_of e))
   script_status script e cause = grind arith
 
   -- Where none was, the bytes are none.
-  none_status : (e : _) → EndingHasCause dids inside (Some Run) None e → status_of e ≡ 0 → ⊥
+  none_status : (e : _) → EndingHasCause dids inside (Some Run) None e → ending_status e ≡ 0 → ⊥
   none_status e cause zero = grind arith
 
   none_read : (e : _) → EndingHasCause dids inside (Some Run) None e → (script : ScriptContent) → script_of dids (read_of bytes) ≡ Ok script → ⊥
   none_read e cause script is = grind arith
 
-  status_told : (e : _) → IsTold no_outside e outcome.status → outcome.status ≡ status_of e
+  status_told : (e : _) → IsRunTold no_outside e outcome.status → outcome.status ≡ ending_status e
   status_told e (inl told) = told.0
   status_told e (inr failed) = absurd (never_rose failed.1)
 
   by_ending : (script : Option ScriptContent) (e : _) → WorksOn dids inside (Some Run) script → EndingHasCause dids inside (Some Run) script e
-      → outcome.status ≡ status_of e → outcome.lives.items ≡ lives_of e → ComesTo dids bytes outcome
+      → outcome.status ≡ ending_status e → outcome.lives.items ≡ lives_of e → ComesTo dids bytes outcome
   by_ending None e works cause status lives = inr (λ zero. none_status e cause (sym status ∙ zero), none_read e cause)
   by_ending (Some script) e works cause status lives =
       inl (
@@ -98,13 +98,13 @@ module _ (dids : List DidUse) (bytes : List ℕ) (left : Option (List ℕ)) (out
         record {
           given = works.0;
           is = works.1;
-          lived = subst (AreLived sectors script blank_flash (state_of outcome.device)) (sym lives) (script_lived script e cause);
+          lived = subst (AreLived sectors script blank_flash (flash_state outcome.device)) (sym lives) (script_lived script e cause);
           status = status ∙ script_status script e cause ∙ ap (λ (l : List Life). status_of_lives (lives_seen script.lives l)) (sym lives);
         },
       )
 
   by_told : (script : Option ScriptContent) (ending : Option _) → outcome.status ≢ 7 → WorksOn dids inside (Some Run) script
-      → IfSome ending (EndingHasCause dids inside (Some Run) script) → IsToldOf no_outside outcome.status outcome.lives.items ending → ComesTo dids bytes outcome
+      → IfSome ending (EndingHasCause dids inside (Some Run) script) → IsRunToldOf no_outside outcome.status outcome.lives.items ending → ComesTo dids bytes outcome
   by_told script None memory works cause told = absurd (memory told.0.told)
   by_told script (Some e) memory works cause (inl wants) = absurd (memory wants.0.told)
   by_told script (Some e) memory works cause (inr told) = by_ending script e works cause (status_told e told.0) told.1
@@ -212,7 +212,7 @@ module _ (dids : List DidUse) (bytes : List ℕ) (outcome : Outcome FlashMem) (s
 
   pub started_fits : Fits script.config start
   started_fits =
-      let linked = subst (IsLinked script.config (sectors script.config) (device_of blank_flash) (device_of (state_of outcome.device))) seen ran.lived.linked in
+      let linked = subst (IsLinked script.config (sectors script.config) (device_of blank_flash) (device_of (flash_state outcome.device))) seen ran.lived.linked in
       last_fits script.config ran.given (sectors script.config) _ _ _ linked.boots (view_of view.parts life) (reverse view.front) starts.number start starts.begun linked.linked
 
   pub started_played : IsLifeInRange (start_from script.config start) view.parts (own_told life.replies.items) (lanes_told life.replies.items) life.journal.items life.queue.items

@@ -22,7 +22,7 @@ use Rattle.flt_trace.specs.Answered.{taken_text, with_lanes}
 use Rattle.flt_trace.specs.Laws.{CallsCanBeMade, ToldAnswersAreDue}
 use Rattle.flt_trace.proofs.Due.{due_length}
 use Rattle.flt_audit.specs.Audit.{due_texts}
-use Rattle.flt_audit.specs.Shape.{Tells, Told}
+use Rattle.flt_audit.specs.Shape.{TellsLife, ToldLife}
 use Rattle.flt_examine.specs.Lines.{IsLastLine, IsLineOf, IsNoScript, IsReadAs, LastFits, LastStarts}
 use Rattle.flt_examine.specs.Traced.{IsTraceDue, IsTraceOf, RunsOnBlank}
 use Rattle.flt_examine.proofs.LastLife.{HasRun, has_run, none_started, started_fits, started_played, started_status}
@@ -51,7 +51,7 @@ with_all texts (lane ∷ lanes) = refl
 module _ (answers_due : ToldAnswersAreDue) (can_be_made : CallsCanBeMade) (dids : List DidUse) (bytes : List ℕ) (outcome : Outcome FlashMem) (script : ScriptContent)
     (is : IsReadAs dids bytes script) (ran : HasRun dids bytes outcome script) (life : Life) (start : Persist) (starts : LastStarts outcome.lives.items life start) (line : List ℕ)
     (of : IsLineOf script.config bytes start life line) where
-  abbrev told : Told
+  abbrev told : ToldLife
   told = record { config = script.config; base = start; journal = life.journal.items }
 
   answers_are : of.texts.answers ≡ due_texts told
@@ -60,7 +60,7 @@ module _ (answers_due : ToldAnswersAreDue) (can_be_made : CallsCanBeMade) (dids 
       ∙ answers_due (start_from script.config start) _ (own_told life.replies.items) (lanes_told life.replies.items) life.journal.items life.queue.items
       (started_played dids bytes outcome script ran is.within life start starts)
 
-  tells : Tells dids of.texts told
+  tells : TellsLife dids of.texts told
   tells =
       let journal = of.are.journal
       (can_be_made (start_from script.config start) _ (own_told life.replies.items) (lanes_told life.replies.items) life.journal.items life.queue.items

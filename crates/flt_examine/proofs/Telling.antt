@@ -5,7 +5,7 @@ use Rattle.std.specs.Result.{result_ok}
 use Rattle.flt_flash.specs.declared.memory.FlashMem.{FlashMem}
 use Rattle.flt_config.specs.declared.config.DidUse.{DidUse}
 use Rattle.flt_run.specs.declared.running.Outcome.{Outcome}
-use Rattle.flt_filter.specs.Verdict.{Came, Due, HasCome, Inside, IsDue, IsMade, IsTold, IsToldOf, Outside, WantsMemory, due_of, failed, too_many, whole}
+use Rattle.flt_filter.specs.Verdict.{Came, Due, HasCome, Inside, IsDue, IsVerdictMade, IsTold, IsToldOf, Outside, WantsMemory, due_of, failed, too_many, whole}
 use Rattle.flt_filter.specs.declared.verdict.Verdict.{Verdict}
 use Rattle.flt_examine.specs.Examination.{IsTraceDueOf, Traces, usage_due}
 use Rattle.flt_examine.specs.Traced.{IsTraceDue, RunsOnBlank}
@@ -28,7 +28,7 @@ module _ (dids : List DidUse) (inside : Inside) (outside : Outside) (status : �
   by_came (whole bytes) due cause is told none = absurd is
 
   -- The input was not read to its end, or memory ran out.
-  pub unread_told : (made : Option Due) → IsMade NotJudged inside made → IsToldOf outside made status → traced ≡ None → Traces dids inside outside traced status
+  pub unread_told : (made : Option Due) → IsVerdictMade NotJudged inside made → IsToldOf outside made status → traced ≡ None → Traces dids inside outside traced status
   unread_told None made told none = inl (told, none)
   unread_told (Some due) made (inl wants) none = inl (wants, none)
   unread_told (Some due) made (inr told) none = by_came made.0 due made.1 made.2 told none

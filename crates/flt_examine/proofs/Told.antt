@@ -10,7 +10,7 @@ use Rattle.flt_restore.specs.Judging.{told_as}
 use Rattle.flt_restore.specs.declared.fault.StartFault.{StartFault}
 use Rattle.flt_restore.specs.declared.fault.StartFault.TheVariants.{Flash}
 use Rattle.flt_dump.specs.Held.{number_told}
-use Rattle.flt_examine.specs.Inspection.{boot_of, generation_line, status_of}
+use Rattle.flt_examine.specs.Inspection.{boot_told, generation_line, held_status}
 
 -- A fault of the flash is reported about no image.
 pub never_flash : (c : Config) (judged : Result Generation Fault) → number_told c judged ≢ Err Flash
@@ -24,7 +24,7 @@ number_line number = refl
 
 -- A generation of this number is held.
 pub number_is_told : (c : Config) (judged : Result Generation Fault) (number : ℕ) → Ok number ≡ number_told c judged
-    → (0 ≡ status_of judged) × (generation_line number ≡ boot_text (boot_of c judged) ++ 10 ∷ [])
+    → (0 ≡ held_status judged) × (generation_line number ≡ boot_text (boot_told c judged) ++ 10 ∷ [])
 number_is_told c (Ok g) number is =
     let same : number ≡ g.number = cc is in
     (refl, number_line number ∙ ap (λ (n : ℕ). codes "generation " ++ decimal n ++ 10 ∷ []) same)
@@ -32,7 +32,7 @@ number_is_told c (Err fault) number is = absurd (cc is)
 
 -- None is, for this reason.
 pub fault_is_told : (c : Config) (judged : Result Generation Fault) (fault : StartFault) → Err fault ≡ number_told c judged
-    → (6 ≡ status_of judged) × (boot_text (Refused fault) ≡ boot_text (boot_of c judged))
+    → (6 ≡ held_status judged) × (boot_text (Refused fault) ≡ boot_text (boot_told c judged))
 fault_is_told c (Ok g) fault is = absurd (cc is)
 fault_is_told c (Err found) fault is =
     let same : fault ≡ told_as c found = cc is in

@@ -8,7 +8,7 @@ use Rattle.flt_config.specs.declared.config.DidUse.{DidUse}
 use Rattle.flt_filter.specs.Verdict.{line_due}
 use Rattle.flt_trace.specs.Trace.{Texts, trace_data}
 use Rattle.flt_audit.specs.Audit.{IsAudited, due_texts, judged, unlike_from, verdict, verdict_by}
-use Rattle.flt_audit.specs.Shape.{Tells, Told}
+use Rattle.flt_audit.specs.Shape.{TellsLife, ToldLife}
 use Rattle.flt_trace.proofs.Line.{is_trace}
 use Rattle.flt_audit.proofs.Shapes.{as_many}
 
@@ -17,7 +17,7 @@ alike : (place : ℕ) (texts : List (List ℕ)) → unlike_from place texts text
 alike place [] = refl
 alike place (text ∷ texts) = rw ((bytes_eq-Decides text text).1 refl) (alike (place + 1) texts)
 
-pub is_yes : (dids : List DidUse) (texts : Texts) (told : Told) (line : List ℕ) → Tells dids texts told → texts.answers ≡ due_texts told → IsUtf8 line → read line ≡ Some (trace_data texts)
+pub is_yes : (dids : List DidUse) (texts : Texts) (told : ToldLife) (line : List ℕ) → TellsLife dids texts told → texts.answers ≡ due_texts told → IsUtf8 line → read line ≡ Some (trace_data texts)
     → IsAudited dids line (line_due 0 (codes "yes " ++ decimal (length told.journal)))
 is_yes dids texts told line tells due utf8 reads =
     let none = ap (λ (l : List (List ℕ)). unlike_from 0 l (due_texts told)) due ∙ alike 0 (due_texts told) in

@@ -34,12 +34,12 @@ abbrev pub Traces : List DidUse → Inside → Outside → Option (Outcome Flash
 Traces dids inside outside traced status = (WantsMemory outside status × (traced ≡ None)) ⊎ IsTraced dids inside outside traced status
 
 -- Nothing was read.
-abbrev pub IsUnread : Inside → Type 0
-IsUnread inside = (inside.left_after ≡ inside.left) × (inside.faults_after ≡ inside.faults)
+abbrev pub ReadsNothing : Inside → Type 0
+ReadsNothing inside = (inside.left_after ≡ inside.left) × (inside.faults_after ≡ inside.faults)
 
 -- What an examination answers. There is a run under the command of a trace alone.
 abbrev pub Examines : List DidUse → Inside → Outside → Option Command → Option (Outcome FlashMem) → ℕ → Type 0
-Examines dids inside outside None traced status = (traced ≡ None) × IsUnread inside × (WantsMemory outside status ⊎ IsTold outside usage_due status)
+Examines dids inside outside None traced status = (traced ≡ None) × ReadsNothing inside × (WantsMemory outside status ⊎ IsTold outside usage_due status)
 Examines dids inside outside (Some Inspect) traced status = (traced ≡ None) × Tells (IsInspected dids) inside outside status
 Examines dids inside outside (Some Audit) traced status = (traced ≡ None) × Tells (IsAudited dids) inside outside status
 Examines dids inside outside (Some Trace) traced status = Traces dids inside outside traced status

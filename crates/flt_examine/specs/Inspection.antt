@@ -14,18 +14,18 @@ use Rattle.flt_restore.specs.Judging.{told_as}
 use Rattle.flt_script.specs.declared.fault.ScriptFault.{ScriptFault}
 use Rattle.flt_store_model.specs.Image.{image_held}
 use Rattle.flt_filter.specs.Verdict.{Due, line_due}
-use Rattle.flt_dump.specs.Dump.{DumpContent, Fault, no_script, begun, no_page, dump_of}
+use Rattle.flt_dump.specs.Dump.{DumpContent, DumpRefusal, no_script, begun, no_page, dump_of}
 use Rattle.flt_dump.specs.Listing.{listing_text}
 
 -- What a power-up with this image would come to, whatever its sequence number.
-abbrev pub boot_of : Config → Result Generation holding.Fault → Boot
-boot_of c (Ok g) = Started g.number g.state
-boot_of c (Err fault) = Refused (told_as c fault)
+abbrev pub boot_told : Config → Result Generation holding.Fault → Boot
+boot_told c (Ok g) = Started g.number g.state
+boot_told c (Err fault) = Refused (told_as c fault)
 
 -- 0 where a generation is held, and else 6.
-abbrev pub status_of : {E : Type 0} → Result Generation E → ℕ
-status_of (Ok g) = 0
-status_of (Err fault) = 6
+abbrev pub held_status : {E : Type 0} → Result Generation E → ℕ
+held_status (Ok g) = 0
+held_status (Err fault) = 6
 
 -- The line of the number of a generation.
 unfoldable pub generation_line : ℕ → List ℕ
@@ -34,8 +34,8 @@ generation_line number = codes "generation " ++ decimal number ++ 10 ∷ []
 -- The image of a dump: how a life would begin with it, and then its lines.
 abbrev pub image_due : DumpContent → Due
 image_due dump = record {
-  status = status_of (image_held dump.config dump.image);
-  text = boot_text (boot_of dump.config (image_held dump.config dump.image)) ++ 10 ∷ []
+  status = held_status (image_held dump.config dump.image);
+  text = boot_text (boot_told dump.config (image_held dump.config dump.image)) ++ 10 ∷ []
       ++ listing_text dump.config.pages numbers dump.image;
 }
 
@@ -44,7 +44,7 @@ abbrev pub script_due : ScriptFault → Due
 script_due fault = record { status = 2; text = script_fault_line fault }
 
 -- A dump, or why bytes are none.
-abbrev pub inspection_due : Result DumpContent Fault → Due
+abbrev pub inspection_due : Result DumpContent DumpRefusal → Due
 inspection_due (Ok dump) = image_due dump
 inspection_due (Err (no_script fault)) = script_due fault
 inspection_due (Err begun) = line_due 2 (codes "script other")

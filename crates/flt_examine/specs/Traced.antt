@@ -1,7 +1,7 @@
 -- What a trace is made of: a run of a script over a blank flash, and the texts of its last life.
 use Rattle.std.specs.Prelude.{◌≡◌, ◌≢◌, ◌⊎◌, ℕ, List, [], ◌∷◌, ◌++◌, Option, Some, None, codes, length, replicate}
 use Rattle.std.specs.Fmt.{decimal}
-use Rattle.flt_flash.specs.Memory.{state_of}
+use Rattle.flt_flash.specs.Memory.{flash_state}
 use Rattle.flt_flash.specs.Image.{blank_page}
 use Rattle.flt_flash.specs.State.{FlashState, first_state}
 use Rattle.flt_flash.specs.declared.memory.FlashMem.{FlashMem}
@@ -13,11 +13,11 @@ use Rattle.flt_life_model.specs.declared.life.Life.{Life}
 use Rattle.flt_lives.specs.Media.{sectors}
 use Rattle.flt_run.specs.declared.command.Command.TheVariants.{Run}
 use Rattle.flt_run.specs.declared.running.Outcome.{Outcome}
-use Rattle.flt_run.specs.Ending.{Inside, Outside, Runs}
+use Rattle.flt_run.specs.Ending.{RunInside, RunOutside, Runs}
 use Rattle.flt_filter.specs.Verdict.{Due, line_due}
 use Rattle.flt_trace.specs.Trace.{Texts, trace_line}
 use Rattle.flt_audit.specs.Audit.{IsAudited}
-use Rattle.flt_audit.specs.Shape.{Tells}
+use Rattle.flt_audit.specs.Shape.{TellsLife}
 use Rattle.flt_trace.specs.Answered.{answer_texts}
 
 -- A blank flash of 1,024 pages a sector, whose power may come 256 times.
@@ -25,7 +25,7 @@ abbrev pub blank_flash : FlashState
 blank_flash = first_state 1024 (replicate 1024 blank_page) (replicate 1024 blank_page) 256
 
 -- The inside of a run that reads these bytes, on a source that never fails, over a blank flash.
-abbrev pub inside_on : List ℕ → Option (List ℕ) → FlashMem → Inside
+abbrev pub inside_on : List ℕ → Option (List ℕ) → FlashMem → RunInside
 inside_on bytes left flash = record {
   left = Some bytes;
   left_after = left;
@@ -33,11 +33,11 @@ inside_on bytes left flash = record {
   read_faults_after = 0;
   media = sectors;
   device = blank_flash;
-  device_after = state_of flash;
+  device_after = flash_state flash;
 }
 
 -- The outside of a run whose sink keeps nothing and never fails.
-abbrev pub no_outside : Outside
+abbrev pub no_outside : RunOutside
 no_outside = record { held = None; held_after = None; write_faults = 0; write_faults_after = 0 }
 
 -- These bytes were run over a blank flash, and memory did not run out.
@@ -59,7 +59,7 @@ pub record IsTraceOf (dids : List DidUse) (bytes : List ℕ) (lives : List Life)
   pub texts : Texts
   pub printed : line ≡ trace_line texts
   pub script : texts.script ≡ bytes
-  pub shape : Tells dids texts (record { config = config; base = start; journal = life.journal.items })
+  pub shape : TellsLife dids texts (record { config = config; base = start; journal = life.journal.items })
   pub answers : texts.answers ≡ answer_texts life.journal.items life.replies.items
   pub audited : IsAudited dids line (line_due 0 (codes "yes " ++ decimal (length life.journal.items)))
 

@@ -2,15 +2,15 @@
 ghost use Rattle.std.specs.Prelude.{◌≡◌, ◌≢◌, ◌++◌, ◌∷◌, [], IfOk, OnOk, Result, Err, codes};
 ghost use Rattle.std.specs.Fmt.{decimal};
 ghost use Rattle.flt_config.specs.declared.config.Config.{Config};
-ghost use Rattle.flt_io.specs.Status.{number_of};
+ghost use Rattle.flt_io.specs.Status.{status_number};
 ghost use Rattle.flt_did.specs.Table.{dids_of};
 ghost use Rattle.flt_store_model.specs.Holding.{Generation, Fault};
 ghost use Rattle.flt_restore.specs.declared.fault.StartFault.TheVariants as faults;
 ghost use Rattle.flt_report.specs.Boot.{boot_text};
 ghost use Rattle.flt_filter.specs.Verdict.{Tells, due_of, line_due, reading_of, writing_of};
 ghost use Rattle.flt_dump.specs.Held.{number_told};
-ghost use Rattle.flt_dump.specs.Reads.{content_of};
-ghost use Rattle.flt_examine.specs.Inspection.{IsInspected, boot_of, generation_line, image_due, script_due, status_of};
+ghost use Rattle.flt_dump.specs.Reads.{dump_content};
+ghost use Rattle.flt_examine.specs.Inspection.{IsInspected, boot_told, generation_line, image_due, script_due, held_status};
 
 use flt_did::{DID_ROWS, DidTable};
 use flt_dump::{Dump, DumpFault, Insight, look_into, read_dump};
@@ -54,7 +54,7 @@ fn put_generation(number: u32, out: &mut Vec<u8>) -> Result<(), AllocError>
 fn put_held(held: Result<u32, StartFault>, out: &mut Vec<u8>) -> Result<Status, AllocError>
     requires { held ≢ Err faults.Flash }
     ensures { IfOk result (λ status. (c : Config) (judged : Result Generation Fault) → held ≡ number_told c judged →
-        (number_of status ≡ status_of judged) × (out.new.items ≡ out.old.items ++ boot_text (boot_of c judged) ++ 10 ∷ [])) }
+        (status_number status ≡ held_status judged) × (out.new.items ≡ out.old.items ++ boot_text (boot_told c judged) ++ 10 ∷ [])) }
 {
     match held {
         Ok(number) => {
@@ -70,7 +70,7 @@ fn put_held(held: Result<u32, StartFault>, out: &mut Vec<u8>) -> Result<Status, 
 
 /// What is reported about the image of a dump.
 fn image_verdict(alloc: Global, dump: Dump) -> Result<Verdict, AllocError>
-    ensures { IfOk result (λ verdict. due_of verdict ≡ image_due (content_of dump)) }
+    ensures { IfOk result (λ verdict. due_of verdict ≡ image_due (dump_content dump)) }
 {
     let Insight { held, listing } = look_into(alloc, dump)?;
     let mut text = Vec::new(alloc);

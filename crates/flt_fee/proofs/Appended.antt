@@ -5,7 +5,7 @@ use Rattle.std.proofs.lemmas.Bool.{eq-eqb, ne_eqb}
 use Rattle.flt_flash.specs.Image.{sector_at}
 use Rattle.flt_flash.specs.Content.{Content}
 use Rattle.flt_flash.specs.State.{FlashState, MakesOperations, HasRisenBy}
-use Rattle.flt_flash.specs.Calls.{Calls, Changes}
+use Rattle.flt_flash.specs.Calls.{BlockCalls, Changes}
 use Rattle.flt_flash.specs.declared.flash.FlashFailed.{FlashFailed}
 use Rattle.flt_flash.proofs.Answering.{sound_calls, changes_done, changes_failed}
 use Rattle.flt_flash.specs.declared.blocks.BlockFault.{BlockFault}
@@ -13,7 +13,7 @@ use Rattle.flt_flash.specs.declared.blocks.BlockFault.TheVariants.{Flash, Damage
 use Rattle.flt_pages.specs.Blank.{AreBlank}
 use Rattle.flt_flash.specs.Blocks.{byte_pages}
 use Rattle.flt_sector_model.specs.Blocks.{current, first_fault, block_value}
-use Rattle.flt_pages.specs.LogHolds.{asked_of, given, StandsAt}
+use Rattle.flt_pages.specs.LogHolds.{record_content, given, StandsAt}
 use Rattle.flt_pages.proofs.LogOn.{blank_behind}
 use Rattle.flt_fee.specs.Fee.{is_last, state_by}
 use Rattle.flt_pages.specs.Recorded.{Records}
@@ -29,7 +29,7 @@ blank_at_end used numbers image sector sequence end value begins stands =
 module _ (used : ℕ) (numbers : List ℕ) (before after : FlashState) (runs : MakesOperations before after) (sound : first_fault used numbers before.image ≡ None) (stays_sound : first_fault used numbers after.image ≡ None)
     (same : current used after.image ≡ current used before.image) (was_stale has_mounted is_stale : Bool) where
   pub quiet_calls : {T : Type 0} (result : Result T BlockFault) → (IsErrOf result Flash → HasRisenBy 1 before.faults after.faults)
-      → ((sector page : ℕ) → IsErrOf result (Damaged sector page) → ⊥) → Calls (state_by used numbers was_stale has_mounted before) (state_by used numbers is_stale has_mounted after) result
+      → ((sector page : ℕ) → IsErrOf result (Damaged sector page) → ⊥) → BlockCalls (state_by used numbers was_stale has_mounted before) (state_by used numbers is_stale has_mounted after) result
   quiet_calls result = sound_calls result
       (follows_by used numbers before after runs was_stale has_mounted is_stale has_mounted (λ yes. yes) (λ yes. ap is_last same ∙ yes) (λ none. stays_sound) (λ place is. absurd (cc (sound, is)))) sound
 
@@ -38,7 +38,7 @@ module _ {used : ℕ} {numbers : List ℕ} {before : FlashState} {sector sequenc
   value = block_value used numbers before.image
 
   abbrev asked : Content
-  asked = asked_of valid held
+  asked = record_content valid held
 
   given_here : given block asked value block ≡ asked
   given_here = ap (λ b. if b then asked else value block) (eq-eqb block block refl)
@@ -81,7 +81,7 @@ module _ {used : ℕ} {numbers : List ℕ} {before : FlashState} {sector sequenc
       pub failed_changes : Changes (state_by used numbers was_stale has_mounted before) (state_by used numbers true has_mounted after) block asked (length held) answer
       failed_changes = changes_failed (state_by used numbers was_stale has_mounted before) (state_by used numbers true has_mounted after) block asked (length held) answer told leaves.either leaves.others
 
-      pub failed_calls : HasRisenBy 1 before.faults after.faults → Calls (state_by used numbers was_stale has_mounted before) (state_by used numbers true has_mounted after) answer
+      pub failed_calls : HasRisenBy 1 before.faults after.faults → BlockCalls (state_by used numbers was_stale has_mounted before) (state_by used numbers true has_mounted after) answer
       failed_calls cause = quiet_calls used numbers before after is.on.runs sound_before leaves.sound (current_stays goes is) was_stale has_mounted true answer (λ flash. cause) (λ s p damaged. cc (told, damaged))
 
     module _ (was_stale has_mounted : Bool) (ok : result ≡ Ok tt) where
@@ -90,5 +90,5 @@ module _ {used : ℕ} {numbers : List ℕ} {before : FlashState} {sector sequenc
           let now = stands_value used numbers after.image sector sequence (page + (2 + byte_pages (length held))) (given block asked value) (done_standing goes is ok) in
           changes_done (state_by used numbers was_stale has_mounted before) (state_by used numbers false has_mounted after) block asked (length held) (now block ∙ given_here) (λ other apart. now other ∙ given_other other apart)
 
-      pub done_calls : Calls {T = Unit {0}} (state_by used numbers was_stale has_mounted before) (state_by used numbers false has_mounted after) (Ok tt)
+      pub done_calls : BlockCalls {T = Unit {0}} (state_by used numbers was_stale has_mounted before) (state_by used numbers false has_mounted after) (Ok tt)
       done_calls = quiet_calls used numbers before after is.on.runs sound_before leaves.sound (current_stays goes is) was_stale has_mounted false {T = Unit {0}} (Ok tt) (λ fault. absurd (cc fault)) (λ s p fault. cc fault)

@@ -2,9 +2,9 @@
 use Rattle.std.proofs.Common.{◌≡◌, ⊎_elim, inl, inr, ◌+◌, ◌-◌, ◌^◌, ◌<◌, ◌≤◌, ℕ, zero, suc, Bool, true, false, List, get_or, set, length, get_or-set_same, get_or-set_other, Some, Result, Ok, Err, refl, sym, ◌∙◌, ap, subst, arith}
 use Rattle.std.specs.Prelude.{OnOk, not, nat_le}
 use Rattle.std.proofs.lemmas.Bool.{leb-true}
-use Rattle.flt_flash.specs.State.{FlashState, HasShape, as_counted, erases_of, counted}
+use Rattle.flt_flash.specs.State.{FlashState, HasShape, as_counted, erases_of, counted_up}
 use Rattle.flt_flash.specs.Blocks.{BlocksState, record_pages, live_pages}
-use Rattle.flt_flash.specs.Calls.{Calls, Costs, CostsAtMost, NeverFull, NoFault, NoErase, switch_cost}
+use Rattle.flt_flash.specs.Calls.{BlockCalls, Costs, CostsAtMost, NeverFull, NoFault, NoErase, switch_cost}
 use Rattle.flt_flash.specs.declared.blocks.BlockFault.{BlockFault}
 use Rattle.flt_flash.specs.declared.blocks.BlockFault.TheVariants.{Flash, Full, SequenceSpent, Damaged}
 use Rattle.flt_fee.specs.Costs.{SpendsAtMost, MakesRoom, Stores, UnlessFailed, StoreCosts}
@@ -27,30 +27,30 @@ stored_behind used end live size sector before middle after room (Err (Damaged s
 
 -- An erase is one more.
 erased : (wear : List ℕ) → length wear ≡ 2 → (sector : ℕ) → sector < 2
-    → (erases_of (set wear (1 - sector) (counted (get_or wear (1 - sector) 0))) ≡ as_counted (get_or wear sector 0) + as_counted (counted (get_or wear (1 - sector) 0)))
+    → (erases_of (set wear (1 - sector) (counted_up (get_or wear (1 - sector) 0))) ≡ as_counted (get_or wear sector 0) + as_counted (counted_up (get_or wear (1 - sector) 0)))
     × (erases_of wear ≡ as_counted (get_or wear sector 0) + as_counted (get_or wear (1 - sector) 0))
 erased wear two zero within =
-    let first : get_or (set wear 1 (counted (get_or wear 1 0))) 0 0 ≡ get_or wear 0 0 = get_or-set_other wear 1 0 (counted (get_or wear 1 0)) 0 (omega arith) in
-    let second : get_or (set wear 1 (counted (get_or wear 1 0))) 1 0 ≡ counted (get_or wear 1 0) = get_or-set_same wear 1 (counted (get_or wear 1 0)) 0 (omega (arith, two)) in
+    let first : get_or (set wear 1 (counted_up (get_or wear 1 0))) 0 0 ≡ get_or wear 0 0 = get_or-set_other wear 1 0 (counted_up (get_or wear 1 0)) 0 (omega arith) in
+    let second : get_or (set wear 1 (counted_up (get_or wear 1 0))) 1 0 ≡ counted_up (get_or wear 1 0) = get_or-set_same wear 1 (counted_up (get_or wear 1 0)) 0 (omega (arith, two)) in
     (λ i. as_counted (first i) + as_counted (second i), refl)
 erased wear two (suc zero) within =
-    let first : get_or (set wear 0 (counted (get_or wear 0 0))) 0 0 ≡ counted (get_or wear 0 0) = get_or-set_same wear 0 (counted (get_or wear 0 0)) 0 (omega (arith, two)) in
-    let second : get_or (set wear 0 (counted (get_or wear 0 0))) 1 0 ≡ get_or wear 1 0 = get_or-set_other wear 0 1 (counted (get_or wear 0 0)) 0 (omega arith) in
-    ((λ i. as_counted (first i) + as_counted (second i)) ∙ turned (as_counted (counted (get_or wear 0 0))) (as_counted (get_or wear 1 0)), turned (as_counted (get_or wear 0 0)) (as_counted (get_or wear 1 0)))
+    let first : get_or (set wear 0 (counted_up (get_or wear 0 0))) 0 0 ≡ counted_up (get_or wear 0 0) = get_or-set_same wear 0 (counted_up (get_or wear 0 0)) 0 (omega (arith, two)) in
+    let second : get_or (set wear 0 (counted_up (get_or wear 0 0))) 1 0 ≡ get_or wear 1 0 = get_or-set_other wear 0 1 (counted_up (get_or wear 0 0)) 0 (omega arith) in
+    ((λ i. as_counted (first i) + as_counted (second i)) ∙ turned (as_counted (counted_up (get_or wear 0 0))) (as_counted (get_or wear 1 0)), turned (as_counted (get_or wear 0 0)) (as_counted (get_or wear 1 0)))
   where
     turned : (m n : ℕ) → m + n ≡ n + m
     turned m n = omega arith
 erased wear two (suc (suc sector)) within = absurd (omega arith)
 
-erase_counts : (wear : List ℕ) → length wear ≡ 2 → (sector : ℕ) → sector < 2 → erases_of wear + 2 ^ 32 ≤ 2 ^ 64 - 1 → erases_of (set wear (1 - sector) (counted (get_or wear (1 - sector) 0))) ≡ erases_of wear + 1
+erase_counts : (wear : List ℕ) → length wear ≡ 2 → (sector : ℕ) → sector < 2 → erases_of wear + 2 ^ 32 ≤ 2 ^ 64 - 1 → erases_of (set wear (1 - sector) (counted_up (get_or wear (1 - sector) 0))) ≡ erases_of wear + 1
 erase_counts wear two sector within small = let sums = erased wear two sector within in omega (arith, sums.0, sums.1, small)
 
-erase_most : (wear : List ℕ) → length wear ≡ 2 → (sector : ℕ) → sector < 2 → erases_of (set wear (1 - sector) (counted (get_or wear (1 - sector) 0))) ≤ erases_of wear + 1
+erase_most : (wear : List ℕ) → length wear ≡ 2 → (sector : ℕ) → sector < 2 → erases_of (set wear (1 - sector) (counted_up (get_or wear (1 - sector) 0))) ≤ erases_of wear + 1
 erase_most wear two sector within = let sums = erased wear two sector within in omega (arith, sums.0, sums.1)
 
 -- A fact of each answer that no fault and no mount gave.
 module _ {T : Type 0} (before after : BlocksState) where
-  pub unless : (result : Result T BlockFault) (fact : Type 0) → Calls before after result → before.has_mounted ≡ true → NoFault before after → UnlessFailed result fact → fact
+  pub unless : (result : Result T BlockFault) (fact : Type 0) → BlockCalls before after result → before.has_mounted ≡ true → NoFault before after → UnlessFailed result fact → fact
   unless (Ok x) fact calls mounted none is = is
   unless (Err Flash) fact calls mounted none is = absurd (none (calls.flash refl))
   unless (Err (Full l n)) fact calls mounted none is = is
@@ -74,7 +74,7 @@ module _ (used still_used : ℕ) (numbers still_numbers : List ℕ) (before afte
 
 -- A put by what it stores.
 pub put_costs : (used still_used : ℕ) (numbers still_numbers : List ℕ) (before after : FlashState) (shape : HasShape before) → 4 ≤ used → (end live size sector : ℕ) → sector < 2 → (was_stale had_mounted is_stale has_mounted : Bool) (result : Result (Unit {0}) BlockFault)
-    → (was_stale ≡ false → had_mounted ≡ true) → Calls (state_by used numbers was_stale had_mounted before) (state_by still_used still_numbers is_stale has_mounted after) result
+    → (was_stale ≡ false → had_mounted ≡ true) → BlockCalls (state_by used numbers was_stale had_mounted before) (state_by still_used still_numbers is_stale has_mounted after) result
     → (was_stale ≡ false → UnlessFailed result (Stores used end live size sector before after))
     → Costs (state_by used numbers was_stale had_mounted before) (state_by still_used still_numbers is_stale has_mounted after) size
 put_costs used still_used numbers still_numbers before after shape least end live size sector in_sector was_stale had_mounted is_stale has_mounted result mounted calls stores = record {

@@ -4,7 +4,7 @@ use Rattle.std.specs.Prelude.{IsErrOf}
 use Rattle.flt_flash.specs.Image.{sector_at}
 use Rattle.flt_flash.specs.Content.{missing}
 use Rattle.flt_flash.specs.State.{FlashState, MakesOperations, HasRisenBy}
-use Rattle.flt_flash.specs.Calls.{Calls, SameSpent, SameValues}
+use Rattle.flt_flash.specs.Calls.{BlockCalls, SameSpent, SameValues}
 use Rattle.flt_flash.specs.declared.blocks.BlockFault.{BlockFault}
 use Rattle.flt_flash.proofs.Answering.{sound_calls}
 use Rattle.flt_flash.specs.declared.blocks.BlockFault.TheVariants.{Flash, Damaged}
@@ -43,7 +43,7 @@ module _ (used : ℕ) (numbers : List ℕ) (least : 2 ≤ used) where
 
     pub formatting_calls : {T : Type 0} (runs : MakesOperations before after) (was_stale had_mounted is_stale has_mounted : Bool) (result : Result T BlockFault) → (had_mounted ≡ true → has_mounted ≡ true)
         → (IsErrOf result Flash → HasRisenBy 1 before.faults after.faults) → ((sector page : ℕ) → IsErrOf result (Damaged sector page) → ⊥)
-        → Calls (state_by used numbers was_stale had_mounted before) (state_by used numbers is_stale has_mounted after) result
+        → BlockCalls (state_by used numbers was_stale had_mounted before) (state_by used numbers is_stale has_mounted after) result
     formatting_calls runs was_stale had_mounted is_stale has_mounted result once = sound_calls result
         (follows_by used numbers before after runs was_stale had_mounted is_stale has_mounted once (λ yes. absurd (cc (ap is_last none, yes)))
         (λ sound. nothing_wrong after.image left) (λ place is. absurd (cc (nothing_wrong before.image (inl none), is)))) (nothing_wrong before.image (inl none))

@@ -10,9 +10,9 @@ use Rattle.flt_flash.specs.Blocks.{byte_pages, live_pages}
 use Rattle.flt_flash.specs.State.{FlashState, HasShape}
 use Rattle.flt_sector_model.specs.Blocks.{current, block_value, value_by}
 use Rattle.flt_pages.specs.declared.place.RecordPlace.{RecordPlace}
-use Rattle.flt_pages.specs.LogHolds.{asked_of, given, StandsAt}
+use Rattle.flt_pages.specs.LogHolds.{record_content, given, StandsAt}
 use Rattle.flt_pages.specs.Live.{held_in}
-use Rattle.flt_pages.specs.RecordPlace.{IsAt, IsPlaceOf, TellsPlaces, bytes_at, pages_found, record_at}
+use Rattle.flt_pages.specs.RecordPlace.{IsAt, IsPlaceOf, TellsPlaces, record_bytes_at, pages_found, record_at}
 use Rattle.flt_pages.specs.Recorded.{Records}
 use Rattle.flt_pages.proofs.LogOn.{end_least}
 use Rattle.flt_pages.proofs.PageBytes.{bytes_size}
@@ -72,17 +72,17 @@ module _ {used : ℕ} {numbers : List ℕ} {before : FlashState} {sector sequenc
   tells_appended last ends =
       let begun = end_least used numbers (sector_at before.image sector) (sector_at before.image sector) goes.stands.holds.entries end goes.begins goes.stands.holds.is (λ k low lt. refl) in
       subst (λ n. TellsPlaces numbers then_places (sector_at after.image sector) n (block_value used numbers after.image)) ends
-      (tells_image used numbers after.image sector sequence (end + (2 + byte_pages (length held))) (given block (asked_of valid held) (block_value used numbers before.image)) (done_standing goes is refl) then_places
-      (subst (λ (p : List (List ℕ)). TellsPlaces numbers then_places p (end + (2 + byte_pages (length held))) (given block (asked_of valid held) (block_value used numbers before.image)))
+      (tells_image used numbers after.image sector sequence (end + (2 + byte_pages (length held))) (given block (record_content valid held) (block_value used numbers before.image)) (done_standing goes is refl) then_places
+      (subst (λ (p : List (List ℕ)). TellsPlaces numbers then_places p (end + (2 + byte_pages (length held))) (given block (record_content valid held) (block_value used numbers before.image)))
       (sym (pages_on before after sector is.pages goes.shape goes.within is.on))
       (tells_more (sector_at before.image sector) is.pages end block held valid begun goes.proper.3 is.done numbers places then_places (block_value used numbers before.image) tells place here noted)))
 
 -- A valid record at its place has as many bytes as its head says.
 module _ (pages : List (List ℕ)) (end : ℕ) (content : Content) (place : RecordPlace) (sizes : ArePages pages) (most : end ≤ length pages) (valid : place.valid ≡ true) (at : IsAt pages end content (Some place)) where
-  valid_holds : content ≡ bytes (bytes_at pages place)
-  valid_holds = at.holds ∙ ap (λ v. asked_of v (bytes_at pages place)) valid
+  valid_holds : content ≡ bytes (record_bytes_at pages place)
+  valid_holds = at.holds ∙ ap (λ v. record_content v (record_bytes_at pages place)) valid
 
-  size : length (bytes_at pages place) ≡ place.length
+  size : length (record_bytes_at pages place) ≡ place.length
   size = bytes_size pages sizes (record_at 0 place) (omega (arith, at.inside.within.below))
 
   pub valid_size : size_of content ≡ place.length
@@ -91,5 +91,5 @@ module _ (pages : List (List ℕ)) (end : ℕ) (content : Content) (place : Reco
   pub valid_found : Bytes place.length ≡ found_of content
   valid_found = ap Bytes (sym size) ∙ sym (ap found_of valid_holds)
 
-  pub valid_read : (before after : List ℕ) → after ≡ bytes_at pages place ++ drop place.length before → ReadsContent content (Bytes place.length) before after
+  pub valid_read : (before after : List ℕ) → after ≡ record_bytes_at pages place ++ drop place.length before → ReadsContent content (Bytes place.length) before after
   valid_read before after read = subst (λ (c : Content). ReadsContent c (Bytes place.length) before after) (sym valid_holds) (sym size, read)

@@ -6,7 +6,7 @@ use Rattle.flt_flash.specs.Blocks.{BlocksState, pages_of, record_pages}
 use Rattle.flt_flash.specs.Calls.{SameValues, NeverFull, Changes}
 use Rattle.flt_flash.specs.declared.blocks.BlockFault.{BlockFault}
 use Rattle.flt_flash.specs.declared.blocks.BlockFault.TheVariants.{Flash, Full, SequenceSpent, Damaged}
-use Rattle.flt_fee.specs.Refusal.{refusal, refusal_by, AnswersBy}
+use Rattle.flt_fee.specs.Refusal.{record_refusal, refusal_by, AnswersBy}
 
 pub values_on : (first second third : BlocksState) → SameValues first second → SameValues second third → SameValues first third
 values_on first second third one two block = two block ∙ one block
@@ -25,7 +25,7 @@ changes_on first second third block asked size result same never does = record {
 
 -- A mount keeps what is refused.
 pub same_refusal : (first second : BlocksState) (block size : ℕ) → second.numbers ≡ first.numbers → second.room ≡ first.room → SameValues first second → second.is_stuck block size ≡ first.is_stuck block size
-    → refusal second block size ≡ refusal first block size
+    → record_refusal second block size ≡ record_refusal first block size
 same_refusal first second block size numbers room same stuck =
     λ i. refusal_by (room i) (sum_by (λ number. pages_of (same number i)) (numbers i)) (record_pages size) (stuck i)
 

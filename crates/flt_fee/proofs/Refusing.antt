@@ -12,7 +12,7 @@ use Rattle.flt_pages.specs.Live.{current_pages}
 use Rattle.flt_pages.proofs.Counting.{live_within, log_within}
 use Rattle.flt_fee.specs.Fee.{is_last, is_past, state_by}
 use Rattle.flt_fee.specs.Mounted.{IsMounted}
-use Rattle.flt_fee.specs.Refusal.{refusal}
+use Rattle.flt_fee.specs.Refusal.{record_refusal}
 
 neither : (b : Bool) → (b && false) ≡ false
 neither true = refl
@@ -38,11 +38,11 @@ module _ (was_stale has_mounted : Bool) (settled : was_stale ≡ false) (used : 
   module _ (block size : ℕ) where
     -- There is room for it.
     with_room : live_pages (state_by used numbers was_stale has_mounted before) + record_pages size ≤ used - 2 → (stuck : Bool) → state.is_stuck block size ≡ stuck
-        → refusal (state_by used numbers was_stale has_mounted before) block size ≡ (if stuck then Some SequenceSpent else None)
+        → record_refusal (state_by used numbers was_stale has_mounted before) block size ≡ (if stuck then Some SequenceSpent else None)
     with_room fits stuck told =
         (λ i. if le-ltb (used - 2) (live_pages state + record_pages size) fits i then Some (Full (live_pages state) (record_pages size)) else if told i then Some SequenceSpent else None)
 
-    pub fits_behind : end + record_pages size ≤ used → refusal (state_by used numbers was_stale has_mounted before) block size ≡ None
+    pub fits_behind : end + record_pages size ≤ used → record_refusal (state_by used numbers was_stale has_mounted before) block size ≡ None
     fits_behind fits =
         with_room (omega (arith, live_end)) false
         (ap (λ b. is_last (current used before.image) && b) (past_is size ∙ ap not (le-leb (end + record_pages size) used fits)) ∙ neither (is_last (current used before.image)))

@@ -9,7 +9,7 @@ use Rattle.flt_sector_model.specs.Log.{LogFrom, log}
 use Rattle.flt_sector_model.specs.Gates.{gate_by, started_by, activated_by, both_gates, gates_of}
 use Rattle.flt_sector_model.specs.Blocks.{current, current_by, first_fault, fault_by, place_in, block_value, value_by, content_of, last_complete}
 use Rattle.flt_pages.specs.Record.{KeptApart, IsWhole, RecordLeft}
-use Rattle.flt_pages.specs.LogHolds.{StandsAt, LogHolds, asked_of, given}
+use Rattle.flt_pages.specs.LogHolds.{StandsAt, LogHolds, record_content, given}
 use Rattle.flt_fee.specs.Mounted.{IsMounted}
 use Rattle.flt_pages.specs.Recorded.{Records}
 use Rattle.flt_pages.proofs.Recording.{pages_on}
@@ -113,11 +113,11 @@ module _ {used : ℕ} {numbers : List ℕ} {before : FlashState} {sector sequenc
   stands_by : (last : ℕ) (values : ℕ → Content) → LogHolds used numbers is.pages last values → StandsAt used numbers after.image sector sequence last values
   stands_by last values holds = record { current = current_stays ∙ goes.stands.current; holds = subst (λ (p : List (List ℕ)). LogHolds used numbers p last values) (sym same_pages) holds }
 
-  pub left_standing : ((last : ℕ) × StandsAt used numbers after.image sector sequence last value) ⊎ ((last : ℕ) × StandsAt used numbers after.image sector sequence last (given block (asked_of valid held) value))
-  left_standing = ⊎_elim (λ old. inl (old.0, stands_by old.0 value old.1)) (λ new. inr (new.0, stands_by new.0 (given block (asked_of valid held) value) new.1))
+  pub left_standing : ((last : ℕ) × StandsAt used numbers after.image sector sequence last value) ⊎ ((last : ℕ) × StandsAt used numbers after.image sector sequence last (given block (record_content valid held) value))
+  left_standing = ⊎_elim (λ old. inl (old.0, stands_by old.0 value old.1)) (λ new. inr (new.0, stands_by new.0 (given block (record_content valid held) value) new.1))
       (left_record used numbers (sector_at before.image sector) is.pages page value goes.begins goes.stands.holds block held valid goes.proper (goes.proper.0, goes.proper.2) goes.among goes.room is.left)
 
-  pub done_standing : (result ≡ Ok tt) → StandsAt used numbers after.image sector sequence (page + (2 + byte_pages (length held))) (given block (asked_of valid held) value)
-  done_standing ok = stands_by (page + (2 + byte_pages (length held))) (given block (asked_of valid held) value)
+  pub done_standing : (result ≡ Ok tt) → StandsAt used numbers after.image sector sequence (page + (2 + byte_pages (length held))) (given block (record_content valid held) value)
+  done_standing ok = stands_by (page + (2 + byte_pages (length held))) (given block (record_content valid held) value)
       (whole_record used numbers (sector_at before.image sector) is.pages page value goes.begins goes.stands.holds block held valid goes.proper (goes.proper.0, goes.proper.2) goes.among goes.room
       (subst (λ (r : Result (Unit {0}) FlashFailed). OnOk r (IsWhole (sector_at before.image sector) is.pages page block held valid)) ok is.done))

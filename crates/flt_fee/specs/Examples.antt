@@ -7,7 +7,7 @@ use Rattle.flt_flash.specs.declared.blocks.BlockFault.TheVariants.{Full, Sequenc
 use Rattle.flt_code.specs.declared.words.Word.TheVariants.{Head, Gate}
 use Rattle.flt_sector_model.specs.Example.{says, piece, sector_of, valid_sector}
 use Rattle.flt_fee.specs.Fee.{state_by}
-use Rattle.flt_fee.specs.Refusal.{refusal}
+use Rattle.flt_fee.specs.Refusal.{record_refusal}
 
 -- A driver of the blocks 8 and 9 that has mounted, over sectors of 12 pages. The current sector has this number, and two records of 32
 -- bytes: of block 8, and of this block. So four pages are left behind its log, and each block that it holds has three of the ten for records.
@@ -22,7 +22,7 @@ with_two sequence block =
 
 -- By what a record of block 9 is refused, of 64 bytes, which fits behind the log, of 65 and of 97, which don't.
 abbrev pub refusals : BlocksState → List (Option BlockFault)
-refusals state = map (refusal state 9) (64 ∷ 65 ∷ 97 ∷ [])
+refusals state = map (record_refusal state 9) (64 ∷ 65 ∷ 97 ∷ [])
 
 -- The last sequence number and the one before it. Where one block is held, a record that does not fit is refused for lack of a number alone,
 -- and with the last one; where both are, one that has no room is refused for that, whatever the number.

@@ -40,5 +40,5 @@ abbrev pub uncounted_of : {F : Type 0} {g : _} → (F → FlashState) → Fee F 
 uncounted_of state fee = state_by fee.used fee.numbers fee.is_stale fee.has_mounted (state fee.flash)
 
 -- The driver as the layers above see it.
-abbrev pub state_of : {F : Type 0} {g : _} → (F → FlashState) → Fee F g → BlocksState
-state_of state fee = recounted fee.tally.calls fee.tally.last_failed (uncounted_of state fee)
+abbrev pub fee_state : {F : Type 0} {g : _} → (F → FlashState) → Fee F g → BlocksState
+fee_state state fee = recounted fee.tally.calls fee.tally.last_failed (uncounted_of state fee)

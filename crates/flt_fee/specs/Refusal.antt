@@ -14,8 +14,8 @@ abbrev pub refusal_by : Option ℕ → ℕ → ℕ → Bool → Option BlockFaul
 refusal_by room live needed stuck = if is_less room (live + needed) then Some (Full live needed) else if stuck then Some SequenceSpent else None
 
 -- The fault by which a driver refuses a record of this length, if it does.
-abbrev pub refusal : BlocksState → ℕ → ℕ → Option BlockFault
-refusal state block size = refusal_by state.room (live_pages state) (record_pages size) (state.is_stuck block size)
+abbrev pub record_refusal : BlocksState → ℕ → ℕ → Option BlockFault
+record_refusal state block size = refusal_by state.room (live_pages state) (record_pages size) (state.is_stuck block size)
 
 -- A record that is refused has no other answer than its refusal, and one that is not has none, but for a fault of the flash or of a mount.
 abbrev pub AnswersBy : Option BlockFault → Result (Unit {0}) BlockFault → Type 0

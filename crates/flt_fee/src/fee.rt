@@ -6,10 +6,10 @@ ghost use Rattle.std.proofs.Props.{props};
 ghost use Rattle.flt_flash.specs.Content.{invalid, bytes as holding};
 ghost use Rattle.flt_flash.specs.Image.{sector_at};
 ghost use Rattle.flt_flash.specs.Blocks.{byte_pages, device_of, live_pages, record_pages};
-ghost use Rattle.flt_flash.specs.Calls.{Calls, CountsCallOf, CountsMount, Changes, Costs, MountCosts, ReadsAlone, ReadsContent, NeverFull, ReadCosts, SameSpent, SameValues, Settles};
+ghost use Rattle.flt_flash.specs.Calls.{BlockCalls, CountsCallOf, CountsMount, Changes, Costs, MountCosts, ReadsAlone, ReadsContent, NeverFull, ReadCosts, SameSpent, SameValues, Settles};
 ghost use Rattle.flt_flash.specs.declared.blocks.BlockFault.TheVariants.{Full, SequenceSpent};
 ghost use Rattle.flt_sector_model.specs.Blocks.{current, block_value};
-ghost use Rattle.flt_pages.specs.LogHolds.{asked_of};
+ghost use Rattle.flt_pages.specs.LogHolds.{record_content};
 ghost use Rattle.flt_pages.specs.Switch.{MovesRecords};
 ghost use Rattle.flt_pages.specs.RecordPlace.{IsAt, TellsPlaces};
 ghost use Rattle.flt_fee.specs.Costs.{SpendsAtMost, MakesRoom};
@@ -76,7 +76,7 @@ pub struct Fee<F: Flash> {
 }
 
 impl<F: Flash> Fee<F> {
-    ghost use Rattle.flt_fee.specs.Fee.{state_by, state_of, uncounted_of};
+    ghost use Rattle.flt_fee.specs.Fee.{state_by, fee_state, uncounted_of};
     ghost use Rattle.flt_fee.specs.Stored.{CanBeStored, IsPartOfCall, IsPartOfMount, RefusesRecord, StoresRecord};
 
     /// Appends a record behind the log, where it fits.
@@ -84,7 +84,7 @@ impl<F: Flash> Fee<F> {
         requires not_stale { IsFalse (uncounted_of F.state self.old).is_stale }
         requires can { CanBeStored (uncounted_of F.state self.old).numbers block (length bytes.now) valid }
         requires room { self.old.end + 2 + byte_pages (length bytes.now) ≤ self.old.used }
-        ensures changes { Changes (uncounted_of F.state self.old) (uncounted_of F.state self.new) block (asked_of valid bytes.now) (length bytes.now) result }
+        ensures changes { Changes (uncounted_of F.state self.old) (uncounted_of F.state self.new) block (record_content valid bytes.now) (length bytes.now) result }
         ensures part { IsPartOfCall F.state self.old self.new result }
         ensures never_full { NeverFull result }
         ensures spends { OnOk result (SpendsAtMost (record_pages (length bytes.now)) (F.state self.old.flash) (F.state self.new.flash)) }
@@ -226,7 +226,7 @@ impl<F: Flash> Fee<F> {
     /// Gives a block these bytes, or makes it invalid.
     fn put(&mut self, block: u16, bytes: &[u8], valid: bool) -> Result<(), BlockFault>
         requires can { CanBeStored (uncounted_of F.state self.old).numbers block (length bytes.now) valid }
-        ensures changes { Changes (uncounted_of F.state self.old) (uncounted_of F.state self.new) block (asked_of valid bytes.now) (length bytes.now) result }
+        ensures changes { Changes (uncounted_of F.state self.old) (uncounted_of F.state self.new) block (record_content valid bytes.now) (length bytes.now) result }
         ensures part { IsPartOfCall F.state self.old self.new result }
         ensures stored { StoresRecord self.old.used (uncounted_of F.state self.old) (uncounted_of F.state self.new) block (length bytes.now) result }
         ensures costs { Costs (uncounted_of F.state self.old) (uncounted_of F.state self.new) (length bytes.now) }
@@ -274,8 +274,8 @@ impl<F: Flash> Fee<F> {
         requires least { 4 ≤ used }
         requires most { used ≤ (F.state flash).pages }
         requires distinct { AllPairs (λ a b. a ≢ b) numbers.items }
-        ensures made { IfOk result (λ fee. state_of F.state fee ≡ state_by used numbers.items true false (F.state flash)) }
-        ensures numbers { IfOk result (λ fee. (state_of F.state fee).numbers ≡ numbers.items) }
+        ensures made { IfOk result (λ fee. fee_state F.state fee ≡ state_by used numbers.items true false (F.state flash)) }
+        ensures numbers { IfOk result (λ fee. (fee_state F.state fee).numbers ≡ numbers.items) }
         ensures refused { IfErr result (λ refused. refused.device ≡ flash) }
     {
         match tables(alloc, numbers) {
@@ -298,8 +298,8 @@ impl<F: Flash> Fee<F> {
     /// The flash, as the driver left it: what the driver told of its device holds of it, and each sector has the pages that the
     /// driver used, two more than its room.
     pub fn retire(self) -> F
-        ensures device { device_of (F.state result) ≡ (state_of F.state self).device }
-        ensures pages { IfSome (state_of F.state self).room (λ room. room + 2 ≤ (F.state result).pages) }
+        ensures device { device_of (F.state result) ≡ (fee_state F.state self).device }
+        ensures pages { IfSome (fee_state F.state self).room (λ room. room + 2 ≤ (F.state result).pages) }
     {
         self.flash
     }
@@ -307,11 +307,11 @@ impl<F: Flash> Fee<F> {
 
 impl<F: Bench> Blocks for Fee<F> {
     ghost use Rattle.flt_pages.proofs.Short.{value_is_short};
-    ghost use Rattle.flt_fee.specs.Fee.{state_of};
+    ghost use Rattle.flt_fee.specs.Fee.{fee_state};
     ghost use Rattle.flt_fee.specs.Refusal.{first_holds};
     ghost use Rattle.flt_fee.specs.Stored.{StoresRecord, WearsEvenly};
 
-    ghost state = { state_of F.state };
+    ghost state = { fee_state F.state };
 
     ghost stuck_is_spent = { λ driver block size. first_holds _ _ };
 
@@ -322,13 +322,13 @@ impl<F: Bench> Blocks for Fee<F> {
     ghost bytes_are_short = { λ driver block. value_is_short driver.used driver.numbers (F.state driver.flash).image block };
 
     fn mount(&mut self) -> Result<(), BlockFault>
-        ensures values { SameValues (state_of F.state self.old) (state_of F.state self.new) }
-        ensures spent { SameSpent (state_of F.state self.old) (state_of F.state self.new) }
-        ensures calls { Calls (state_of F.state self.old) (state_of F.state self.new) result }
-        ensures once { CountsMount (state_of F.state self.old) (state_of F.state self.new) }
+        ensures values { SameValues (fee_state F.state self.old) (fee_state F.state self.new) }
+        ensures spent { SameSpent (fee_state F.state self.old) (fee_state F.state self.new) }
+        ensures calls { BlockCalls (fee_state F.state self.old) (fee_state F.state self.new) result }
+        ensures once { CountsMount (fee_state F.state self.old) (fee_state F.state self.new) }
         ensures never_full { NeverFull result }
-        ensures stale { Settles result (state_of F.state self.new) }
-        ensures costs { MountCosts (state_of F.state self.old) (state_of F.state self.new) }
+        ensures stale { Settles result (fee_state F.state self.new) }
+        ensures costs { MountCosts (fee_state F.state self.old) (fee_state F.state self.new) }
 
         // The sectors wear evenly.
         ensures even { WearsEvenly F.state self.old self.new }
@@ -338,17 +338,17 @@ impl<F: Bench> Blocks for Fee<F> {
     }
 
     fn write(&mut self, block: u16, bytes: &[u8]) -> Result<(), BlockFault>
-        requires number { Contains (state_of F.state self.old).numbers block }
+        requires number { Contains (fee_state F.state self.old).numbers block }
         requires least { 1 ≤ length bytes.now }
         requires most { length bytes.now ≤ 128 }
-        ensures changes { Changes (state_of F.state self.old) (state_of F.state self.new) block (holding bytes.now) (length bytes.now) result }
-        ensures calls { Calls (state_of F.state self.old) (state_of F.state self.new) result }
-        ensures once { CountsCallOf block (state_of F.state self.old) (state_of F.state self.new) result }
-        ensures stale { Settles result (state_of F.state self.new) }
-        ensures costs { Costs (state_of F.state self.old) (state_of F.state self.new) (length bytes.now) }
+        ensures changes { Changes (fee_state F.state self.old) (fee_state F.state self.new) block (holding bytes.now) (length bytes.now) result }
+        ensures calls { BlockCalls (fee_state F.state self.old) (fee_state F.state self.new) result }
+        ensures once { CountsCallOf block (fee_state F.state self.old) (fee_state F.state self.new) result }
+        ensures stale { Settles result (fee_state F.state self.new) }
+        ensures costs { Costs (fee_state F.state self.old) (fee_state F.state self.new) (length bytes.now) }
 
         // It is refused exactly where there is no room or no number for it, and costs no switch where its record fits behind the log.
-        ensures stored { StoresRecord self.old.used (state_of F.state self.old) (state_of F.state self.new) block (length bytes.now) result }
+        ensures stored { StoresRecord self.old.used (fee_state F.state self.old) (fee_state F.state self.new) block (length bytes.now) result }
 
         // The sectors wear evenly.
         ensures even { WearsEvenly F.state self.old self.new }
@@ -360,14 +360,14 @@ impl<F: Bench> Blocks for Fee<F> {
     }
 
     fn read(&mut self, block: u16, out: &mut [u8; 128]) -> Result<Found, BlockFault>
-        requires { Contains (state_of F.state self.old).numbers block }
-        ensures found { IfOk result (λ found. ReadsContent ((state_of F.state self.old).value block) found out.old out.new) }
+        requires { Contains (fee_state F.state self.old).numbers block }
+        ensures found { IfOk result (λ found. ReadsContent ((fee_state F.state self.old).value block) found out.old out.new) }
         ensures nothing { OnErr result (out.new ≡ out.old) }
-        ensures once { CountsCallOf block (state_of F.state self.old) (state_of F.state self.new) result }
-        ensures reads { ReadsAlone (state_of F.state self.old) (state_of F.state self.new) result }
+        ensures once { CountsCallOf block (fee_state F.state self.old) (fee_state F.state self.new) result }
+        ensures reads { ReadsAlone (fee_state F.state self.old) (fee_state F.state self.new) result }
 
         // A driver that is not stale looks at no log: it reads the pages of the record's bytes alone.
-        ensures costs { ReadCosts (state_of F.state self.old) (state_of F.state self.new) block }
+        ensures costs { ReadCosts (fee_state F.state self.old) (fee_state F.state self.new) block }
 
         // The sectors wear evenly.
         ensures even { WearsEvenly F.state self.old self.new }
@@ -387,15 +387,15 @@ impl<F: Bench> Blocks for Fee<F> {
     }
 
     fn invalidate(&mut self, block: u16) -> Result<(), BlockFault>
-        requires { Contains (state_of F.state self.old).numbers block }
-        ensures changes { Changes (state_of F.state self.old) (state_of F.state self.new) block invalid 0 result }
-        ensures calls { Calls (state_of F.state self.old) (state_of F.state self.new) result }
-        ensures once { CountsCallOf block (state_of F.state self.old) (state_of F.state self.new) result }
-        ensures stale { Settles result (state_of F.state self.new) }
-        ensures costs { Costs (state_of F.state self.old) (state_of F.state self.new) 0 }
+        requires { Contains (fee_state F.state self.old).numbers block }
+        ensures changes { Changes (fee_state F.state self.old) (fee_state F.state self.new) block invalid 0 result }
+        ensures calls { BlockCalls (fee_state F.state self.old) (fee_state F.state self.new) result }
+        ensures once { CountsCallOf block (fee_state F.state self.old) (fee_state F.state self.new) result }
+        ensures stale { Settles result (fee_state F.state self.new) }
+        ensures costs { Costs (fee_state F.state self.old) (fee_state F.state self.new) 0 }
 
         // It is refused exactly where there is no room or no number for it, and costs no switch where its record fits behind the log.
-        ensures stored { StoresRecord self.old.used (state_of F.state self.old) (state_of F.state self.new) block 0 result }
+        ensures stored { StoresRecord self.old.used (fee_state F.state self.old) (fee_state F.state self.new) block 0 result }
 
         // The sectors wear evenly.
         ensures even { WearsEvenly F.state self.old self.new }

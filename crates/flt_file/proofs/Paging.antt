@@ -4,7 +4,7 @@ use Rattle.std.proofs.lemmas.List.{ext_get_or, length-take-le, length-drop, get_
 use Rattle.std.proofs.lemmas.List.FromFn.{length-map-range_with_len, get_or-map-range_with_len}
 use Rattle.std.proofs.lemmas.Bool.{cases_eq, cases_lt}
 use Rattle.flt_flash.specs.Image.{page_at, blank_page, programmed, erased}
-use Rattle.flt_ea.specs.State.{unit_at, written}
+use Rattle.flt_ea.specs.State.{unit_at, with_unit}
 use Rattle.flt_flash.specs.Tearing.{IsTornByte, IsTornPage, IsTornSector, IsTorn}
 use Rattle.flt_file.specs.Bytes.{spliced}
 use Rattle.flt_file.specs.Layout.{page_in, pages_in, image_in, units_in}
@@ -158,7 +158,7 @@ module _ (pages : ℕ) (held : List ℕ) (size : length held ≡ 64 * pages) whe
 
 -- The units of an EEPROM behind a write.
 pub units_written : (units : ℕ) (held : List ℕ) → length held ≡ 32 * units → (u : ℕ) (b : List ℕ) → u < units → length b ≡ 32
-    → units_in units (spliced (32 * u) b held) ≡ written (units_in units held) u b
+    → units_in units (spliced (32 * u) b held) ≡ with_unit (units_in units held) u b
 units_written units held size u b lt long =
     let at : u ≡ 0 + u = omega arith in
     ap (λ f. units_in units (spliced (32 * f) b held)) at

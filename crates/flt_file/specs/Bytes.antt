@@ -7,8 +7,8 @@ abbrev pub spliced : ℕ → List ℕ → List ℕ → List ℕ
 spliced at new held = take at held ++ new ++ drop (at + length new) held
 
 -- What is told is what was told, with these bytes from a place on.
-abbrev pub AreWritten : ℕ → List ℕ → Option (List ℕ) → Option (List ℕ) → Type 0
-AreWritten at new before after = IfSome after (λ now. IsSomeAnd before (λ was. now ≡ spliced at new was))
+abbrev pub HaveBytesFrom : ℕ → List ℕ → Option (List ℕ) → Option (List ℕ) → Type 0
+HaveBytesFrom at new before after = IfSome after (λ now. IsSomeAnd before (λ was. now ≡ spliced at new was))
 
 -- Each bit of what is told is as it was told, or as in these bytes.
 abbrev pub AreBetween : ℕ → List ℕ → Option (List ℕ) → Option (List ℕ) → Type 0

@@ -2,5 +2,5 @@
 use Rattle.std.specs.Prelude.{ℕ, List, Option, None}
 use Rattle.flt_file.specs.declared.file.FileBytes.{FileBytes}
 
-abbrev pub told : FileBytes → Option (List ℕ)
-told store = None
+abbrev pub file_bytes_told : FileBytes → Option (List ℕ)
+file_bytes_told store = None

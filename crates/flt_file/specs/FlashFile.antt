@@ -8,13 +8,13 @@ use Rattle.flt_file.specs.Device.{device_by}
 use Rattle.flt_file.specs.declared.flash.FlashFile.{FlashFile}
 
 -- The flash as every user of a flash sees it.
-abbrev pub state_of : {B : Type 0} {g : _} → (B → Option (List ℕ)) → FlashFile B g → FlashState
-state_of told flash = device_by flash.pages (image_in flash.pages) (flash.first_wear ∷ flash.second_wear ∷ []) (kept_of told flash.kept)
+abbrev pub flash_file_state : {B : Type 0} {g : _} → (B → Option (List ℕ)) → FlashFile B g → FlashState
+flash_file_state told flash = device_by flash.pages (image_in flash.pages) (flash.first_wear ∷ flash.second_wear ∷ []) (kept_of told flash.kept)
 
 -- A flash of two sectors of so many pages that was just opened: it is off, and its power may come once.
 abbrev pub first_flash : ℕ → List ℕ → FlashState
 first_flash pages bytes = device_by pages (image_in pages) (0 ∷ 0 ∷ []) (first_kept bytes)
 
 -- The bytes of its two sectors.
-abbrev pub bytes_of : {B : Type 0} {g : _} → (B → Option (List ℕ)) → FlashFile B g → List ℕ
-bytes_of told flash = (kept_of told flash.kept).bytes
+abbrev pub sector_bytes : {B : Type 0} {g : _} → (B → Option (List ℕ)) → FlashFile B g → List ℕ
+sector_bytes told flash = (kept_of told flash.kept).bytes

@@ -1,6 +1,6 @@
 -- Bytes of a device that a store keeps, and what each operation on them does, whatever the bytes stand for.
 use Rattle.std.specs.Prelude.{◌≡◌, ℕ, ◌-◌, Bool, true, false, List, [], ◌∷◌, ◌++◌, Result, IsTrue, IsErr, OnErr, length}
-use Rattle.flt_flash.specs.State.{HasRisenBy, counted}
+use Rattle.flt_flash.specs.State.{HasRisenBy, counted_up}
 use Rattle.flt_flash.specs.declared.flash.FlashFailed.{FlashFailed}
 
 -- A power-up: the count of faults and the bytes at its moment.
@@ -25,7 +25,7 @@ pub record Carries {T : Type 0} (before after : KeptState) (result : Result T Fl
   pub fails_while_off : IsTrue before.is_off → IsErr result
   pub stays_off : IsTrue before.is_off → IsTrue after.is_off
   pub stays_while_off : IsTrue before.is_off → after.bytes ≡ before.bytes
-  pub operations : after.operations ≡ counted before.operations
+  pub operations : after.operations ≡ counted_up before.operations
   pub boots : after.boots ≡ before.boots
   pub boots_left : after.boots_left ≡ before.boots_left
 

@@ -2,5 +2,5 @@
 use Rattle.std.specs.Prelude.{ℕ, List}
 use Rattle.flt_file.specs.declared.memory.MemBytes.{MemBytes}
 
-abbrev pub bytes_of : MemBytes → List ℕ
-bytes_of store = store.bytes.items
+abbrev pub memory_bytes : MemBytes → List ℕ
+memory_bytes store = store.bytes.items

@@ -19,7 +19,7 @@ are_pages held from pages fits page lt =
     ap length (get_or-map-range_with_len (page_in held) from pages page (from + page) [] few refl)
     ∙ length-take-le 32 (drop (32 * (from + page)) held) (omega (arith, length-drop (32 * (from + page)) held))
 
-pub flash_shape : {B : Type 0} {g : Ghosts B} → (flash : FlashFile B g) → HasShape (flash_file.state_of g.told flash)
+pub flash_shape : {B : Type 0} {g : Ghosts B} → (flash : FlashFile B g) → HasShape (flash_file.flash_file_state g.told flash)
 flash_shape {g = g} flash = record {
   most = flash.most;
   sectors = refl;
@@ -31,28 +31,28 @@ flash_shape {g = g} flash = record {
 }
   where
     held : List ℕ
-    held = flash_file.bytes_of g.told flash
+    held = flash_file.sector_bytes g.told flash
 
-    sizes : (sector : ℕ) → sector < 2 → length (sector_at (flash_file.state_of g.told flash).image sector) ≡ flash.pages
+    sizes : (sector : ℕ) → sector < 2 → length (sector_at (flash_file.flash_file_state g.told flash).image sector) ≡ flash.pages
     sizes zero lt = length-map-range_with_len (page_in held) 0 flash.pages
     sizes (suc zero) lt = length-map-range_with_len (page_in held) flash.pages flash.pages
     sizes (suc (suc sector)) lt = absurd (omega arith)
 
-    bytes : (sector : ℕ) → sector < 2 → ArePages (sector_at (flash_file.state_of g.told flash).image sector)
+    bytes : (sector : ℕ) → sector < 2 → ArePages (sector_at (flash_file.flash_file_state g.told flash).image sector)
     bytes zero lt = are_pages held 0 flash.pages (omega (arith, flash.size))
     bytes (suc zero) lt = are_pages held flash.pages flash.pages (omega (arith, flash.size))
     bytes (suc (suc sector)) lt = absurd (omega arith)
 
-    erases : (sector : ℕ) → sector < 2 → get_or (flash_file.state_of g.told flash).wear sector 0 ≤ 2 ^ 64 - 1
+    erases : (sector : ℕ) → sector < 2 → get_or (flash_file.flash_file_state g.told flash).wear sector 0 ≤ 2 ^ 64 - 1
     erases zero lt = omega (arith, flash.most_first_wear)
     erases (suc zero) lt = omega (arith, flash.most_second_wear)
     erases (suc (suc sector)) lt = absurd (omega arith)
 
-pub eeprom_shape : {B : Type 0} {g : Ghosts B} → (device : EepromFile B g) → HasUnits (eeprom_file.state_of g.told device)
+pub eeprom_shape : {B : Type 0} {g : Ghosts B} → (device : EepromFile B g) → HasUnits (eeprom_file.eeprom_file_state g.told device)
 eeprom_shape {g = g} device = record {
   most = device.most;
   one = refl;
-  units = length-map-range_with_len (page_in (eeprom_file.bytes_of g.told device)) 0 device.units;
-  bytes = are_pages (eeprom_file.bytes_of g.told device) 0 device.units (omega (arith, device.size));
+  units = length-map-range_with_len (page_in (eeprom_file.unit_bytes g.told device)) 0 device.units;
+  bytes = are_pages (eeprom_file.unit_bytes g.told device) 0 device.units (omega (arith, device.size));
   wear = refl;
 }

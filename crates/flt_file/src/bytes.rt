@@ -1,6 +1,6 @@
 //! Where bytes outlive the process.
 ghost use Rattle.std.specs.Prelude.{◌≡◌, ◌+◌, ◌≤◌, ℕ, List, Option, IfSome, OnOk, OnErr, length};
-ghost use Rattle.flt_file.specs.Bytes.{AreWritten, AreBetween};
+ghost use Rattle.flt_file.specs.Bytes.{HaveBytesFrom, AreBetween};
 
 use std::alloc::AllocError;
 use thiserror::Error;
@@ -57,6 +57,6 @@ pub trait ByteStore {
     /// other one as before.
     fn write(&mut self, at: usize, bytes: &[u8]) -> Result<(), StoreFault>
         requires { IfSome (told self.old) (λ held. at + length bytes.now ≤ length held) }
-        ensures written { OnOk result (AreWritten at bytes.now (told self.old) (told self.new)) }
+        ensures written { OnOk result (HaveBytesFrom at bytes.now (told self.old) (told self.new)) }
         ensures between { OnErr result (AreBetween at bytes.now (told self.old) (told self.new)) };
 }

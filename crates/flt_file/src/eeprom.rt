@@ -2,7 +2,7 @@
 ghost use Rattle.std.specs.Prelude.{◌≡◌, ◌*◌, ◌<◌, length, IfOk, IfSome, OnOk, OnErr, IsTrue};
 ghost use Rattle.flt_flash.specs.State.{Operates};
 ghost use Rattle.flt_flash.specs.Tearing.{IsTorn};
-ghost use Rattle.flt_ea.specs.State.{written};
+ghost use Rattle.flt_ea.specs.State.{with_unit};
 ghost use Rattle.flt_file.specs.Layout.{units_in};
 ghost use Rattle.flt_file.specs.KeptOf.{kept_of};
 
@@ -26,7 +26,7 @@ pub struct EepromFile<B: ByteStore> {
 }
 
 impl<B: ByteStore + Drop> EepromFile<B> {
-    ghost use Rattle.flt_file.specs.EepromFile.{state_of, bytes_of, first_eeprom};
+    ghost use Rattle.flt_file.specs.EepromFile.{eeprom_file_state, unit_bytes, first_eeprom};
 
     /// The EEPROM of so many units that the bytes of this store are. It is off, and its power may come once.
     ///
@@ -35,8 +35,8 @@ impl<B: ByteStore + Drop> EepromFile<B> {
     /// `Memory` if memory ran out; `Store` if the store could not be read. The store is as it was, and is let go.
     pub fn load(alloc: Global, store: B, units: u16) -> Result<EepromFile<B>, LoadFault>
         requires { IfSome (B.told store) (λ held. length held ≡ 32 * units) }
-        ensures first { IfOk result (λ device. state_of B.told device ≡ first_eeprom units (bytes_of B.told device)) }
-        ensures bytes { IfOk result (λ device. IfSome (B.told store) (λ held. bytes_of B.told device ≡ held)) }
+        ensures first { IfOk result (λ device. eeprom_file_state B.told device ≡ first_eeprom units (unit_bytes B.told device)) }
+        ensures bytes { IfOk result (λ device. IfSome (B.told store) (λ held. unit_bytes B.told device ≡ held)) }
     {
         let kept = Kept::load(alloc, store, 32 * units as usize)?;
         Ok(EepromFile { kept, units })
@@ -44,17 +44,17 @@ impl<B: ByteStore + Drop> EepromFile<B> {
 
     /// The store, as the operations left it.
     pub fn into_store(self) -> B
-        ensures { IfSome (B.told result) (λ held. (state_of B.told self).image ≡ units_in (state_of B.told self).pages held) }
+        ensures { IfSome (B.told result) (λ held. (eeprom_file_state B.told self).image ≡ units_in (eeprom_file_state B.told self).pages held) }
     {
         self.kept.into_store()
     }
 }
 
 impl<B: ByteStore + Drop> Eeprom for EepromFile<B> {
-    ghost use Rattle.flt_file.specs.EepromFile.{state_of};
+    ghost use Rattle.flt_file.specs.EepromFile.{eeprom_file_state};
     ghost use Rattle.flt_file.specs.Shape.{eeprom_shape};
 
-    ghost state = { state_of B.told };
+    ghost state = { eeprom_file_state B.told };
 
     ghost shape = { λ device. eeprom_shape device };
 
@@ -69,14 +69,14 @@ impl<B: ByteStore + Drop> Eeprom for EepromFile<B> {
 
     #[tactic(auto, using(crate::proofs::Operating::carried_operates))]
     fn write_unit(&mut self, unit: u16, bytes: &[u8; 32]) -> Result<(), FlashFailed>
-        requires { unit < (state_of B.told self.old).pages }
-        ensures written { OnOk result ((state_of B.told self.new).image ≡ written (state_of B.told self.old).image unit bytes.now) }
-        ensures torn { OnErr result (IsTorn (state_of B.told self.old).image (written (state_of B.told self.old).image unit bytes.now)
-            (state_of B.told self.new).image) }
-        ensures operation { Operates (state_of B.told self.old) (state_of B.told self.new) result }
+        requires { unit < (eeprom_file_state B.told self.old).pages }
+        ensures written { OnOk result ((eeprom_file_state B.told self.new).image ≡ with_unit (eeprom_file_state B.told self.old).image unit bytes.now) }
+        ensures torn { OnErr result (IsTorn (eeprom_file_state B.told self.old).image (with_unit (eeprom_file_state B.told self.old).image unit bytes.now)
+            (eeprom_file_state B.told self.new).image) }
+        ensures operation { Operates (eeprom_file_state B.told self.old) (eeprom_file_state B.told self.new) result }
 
         // It is off after a failure.
-        ensures off { OnErr result (IsTrue (state_of B.told self.new).is_off) }
+        ensures off { OnErr result (IsTrue (eeprom_file_state B.told self.new).is_off) }
     {
         self.kept.write(unit as usize, bytes)
     }

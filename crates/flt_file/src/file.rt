@@ -20,9 +20,9 @@ impl FileBytes {
 /// What is trusted of a file: it keeps the bytes that were written once `sync_data` answered `Ok`; of a write or a sync that did not answer
 /// `Ok`, each bit of the written range is as before or as asked, and every other bit as before.
 impl ByteStore for FileBytes {
-    ghost use Rattle.flt_file.specs.FileBytes.{told};
+    ghost use Rattle.flt_file.specs.FileBytes.{file_bytes_told};
 
-    ghost told = { told };
+    ghost told = { file_bytes_told };
 
     // Where a sync of an earlier process failed, the system may give bytes that the disk does not have, and count them as synced. So what
     // was read is written again, and synced.

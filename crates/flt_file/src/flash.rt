@@ -2,7 +2,7 @@
 ghost use Rattle.std.specs.Prelude.{◌≡◌, ◌+◌, ◌*◌, ◌^◌, ◌<◌, ◌≤◌, ℕ, [], ◌∷◌, length, replicate, IfOk, IfSome, OnOk, OnErr, IsTrue, slice_index, slice_set};
 ghost use Rattle.flt_flash.specs.Image.{page_at, programmed, erased, blank_page};
 ghost use Rattle.flt_flash.specs.Tearing.{IsTorn};
-ghost use Rattle.flt_flash.specs.State.{Operates, counted};
+ghost use Rattle.flt_flash.specs.State.{Operates, counted_up};
 ghost use Rattle.flt_file.specs.Layout.{image_in};
 ghost use Rattle.flt_file.specs.KeptOf.{kept_of};
 
@@ -32,7 +32,7 @@ pub struct FlashFile<B: ByteStore> {
 }
 
 impl<B: ByteStore + Drop> FlashFile<B> {
-    ghost use Rattle.flt_file.specs.FlashFile.{state_of, bytes_of, first_flash};
+    ghost use Rattle.flt_file.specs.FlashFile.{flash_file_state, sector_bytes, first_flash};
 
     /// The flash of two sectors of so many pages, 2 to 1,024, that the bytes of this store are. It is off, and its power may come once.
     ///
@@ -43,8 +43,8 @@ impl<B: ByteStore + Drop> FlashFile<B> {
         requires least { 2 ≤ pages }
         requires most { pages ≤ 1024 }
         requires size { IfSome (B.told store) (λ held. length held ≡ 64 * pages) }
-        ensures first { IfOk result (λ flash. state_of B.told flash ≡ first_flash pages (bytes_of B.told flash)) }
-        ensures bytes { IfOk result (λ flash. IfSome (B.told store) (λ held. bytes_of B.told flash ≡ held)) }
+        ensures first { IfOk result (λ flash. flash_file_state B.told flash ≡ first_flash pages (sector_bytes B.told flash)) }
+        ensures bytes { IfOk result (λ flash. IfSome (B.told store) (λ held. sector_bytes B.told flash ≡ held)) }
     {
         let blank = Vec::from_elem(alloc, 255u8, 32 * pages as usize)?;
         let kept = Kept::load(alloc, store, 64 * pages as usize)?;
@@ -59,17 +59,17 @@ impl<B: ByteStore + Drop> FlashFile<B> {
 
     /// The store, as the operations left it.
     pub fn into_store(self) -> B
-        ensures { IfSome (B.told result) (λ held. (state_of B.told self).image ≡ image_in (state_of B.told self).pages held) }
+        ensures { IfSome (B.told result) (λ held. (flash_file_state B.told self).image ≡ image_in (flash_file_state B.told self).pages held) }
     {
         self.kept.into_store()
     }
 }
 
 impl<B: ByteStore + Drop> Flash for FlashFile<B> {
-    ghost use Rattle.flt_file.specs.FlashFile.{state_of};
+    ghost use Rattle.flt_file.specs.FlashFile.{flash_file_state};
     ghost use Rattle.flt_file.specs.Shape.{flash_shape};
 
-    ghost state = { state_of B.told };
+    ghost state = { flash_file_state B.told };
 
     ghost shape = { λ flash. flash_shape flash };
 
@@ -86,16 +86,16 @@ impl<B: ByteStore + Drop> Flash for FlashFile<B> {
     #[tactic(auto, using(crate::proofs::Operating::carried_operates))]
     fn program(&mut self, sector: u8, page: u16, bytes: &[u8; 32]) -> Result<(), FlashFailed>
         requires sector { sector < 2 }
-        requires page { page < (state_of B.told self.old).pages }
-        requires blank { page_at (state_of B.told self.old).image sector page ≡ blank_page }
-        ensures programmed { OnOk result ((state_of B.told self.new).image ≡ programmed (state_of B.told self.old).image sector page bytes.now) }
-        ensures torn { OnErr result (IsTorn (state_of B.told self.old).image (programmed (state_of B.told self.old).image sector page bytes.now)
-            (state_of B.told self.new).image) }
-        ensures wear { (state_of B.told self.new).wear ≡ (state_of B.told self.old).wear }
-        ensures operation { Operates (state_of B.told self.old) (state_of B.told self.new) result }
+        requires page { page < (flash_file_state B.told self.old).pages }
+        requires blank { page_at (flash_file_state B.told self.old).image sector page ≡ blank_page }
+        ensures programmed { OnOk result ((flash_file_state B.told self.new).image ≡ programmed (flash_file_state B.told self.old).image sector page bytes.now) }
+        ensures torn { OnErr result (IsTorn (flash_file_state B.told self.old).image (programmed (flash_file_state B.told self.old).image sector page bytes.now)
+            (flash_file_state B.told self.new).image) }
+        ensures wear { (flash_file_state B.told self.new).wear ≡ (flash_file_state B.told self.old).wear }
+        ensures operation { Operates (flash_file_state B.told self.old) (flash_file_state B.told self.new) result }
 
         // It is off after a failure.
-        ensures off { OnErr result (IsTrue (state_of B.told self.new).is_off) }
+        ensures off { OnErr result (IsTrue (flash_file_state B.told self.new).is_off) }
     {
         let number = sector as usize * self.pages as usize + page as usize;
         self.kept.write(number, bytes)
@@ -104,15 +104,15 @@ impl<B: ByteStore + Drop> Flash for FlashFile<B> {
     #[tactic(auto, using(crate::proofs::Operating::carried_operates))]
     fn erase(&mut self, sector: u8) -> Result<(), FlashFailed>
         requires { sector < 2 }
-        ensures erased { OnOk result ((state_of B.told self.new).image ≡ erased (state_of B.told self.old).image sector) }
-        ensures torn { OnErr result (IsTorn (state_of B.told self.old).image (erased (state_of B.told self.old).image sector)
-            (state_of B.told self.new).image) }
-        ensures wear { (state_of B.told self.new).wear ≡ slice_set (state_of B.told self.old).wear sector
-            (counted (slice_index (state_of B.told self.old).wear sector)) }
-        ensures operation { Operates (state_of B.told self.old) (state_of B.told self.new) result }
+        ensures erased { OnOk result ((flash_file_state B.told self.new).image ≡ erased (flash_file_state B.told self.old).image sector) }
+        ensures torn { OnErr result (IsTorn (flash_file_state B.told self.old).image (erased (flash_file_state B.told self.old).image sector)
+            (flash_file_state B.told self.new).image) }
+        ensures wear { (flash_file_state B.told self.new).wear ≡ slice_set (flash_file_state B.told self.old).wear sector
+            (counted_up (slice_index (flash_file_state B.told self.old).wear sector)) }
+        ensures operation { Operates (flash_file_state B.told self.old) (flash_file_state B.told self.new) result }
 
         // It is off after a failure.
-        ensures off { OnErr result (IsTrue (state_of B.told self.new).is_off) }
+        ensures off { OnErr result (IsTrue (flash_file_state B.told self.new).is_off) }
     {
         count_erase(sector, &mut self.first_wear, &mut self.second_wear);
         let first = sector as usize * self.pages as usize;
@@ -153,7 +153,7 @@ impl<B: ByteStore + Drop> Bench for FlashFile<B> {
 fn count_erase(sector: u8, first: &mut u64, second: &mut u64)
     requires { sector < 2 }
     ensures { first.new ∷ second.new ∷ [] ≡ slice_set (first.old ∷ second.old ∷ []) sector
-        (counted (slice_index (first.old ∷ second.old ∷ []) sector)) }
+        (counted_up (slice_index (first.old ∷ second.old ∷ []) sector)) }
 {
     if sector == 0 {
         *first = first.saturating_add(1);

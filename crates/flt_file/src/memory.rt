@@ -15,11 +15,11 @@ pub struct MemBytes {
 }
 
 impl MemBytes {
-    ghost use Rattle.flt_file.specs.MemBytes.{bytes_of};
+    ghost use Rattle.flt_file.specs.MemBytes.{memory_bytes};
 
     /// These bytes, which never fail.
     pub fn new(bytes: Vec<u8>) -> MemBytes
-        ensures { bytes_of result ≡ bytes.items }
+        ensures { memory_bytes result ≡ bytes.items }
     {
         MemBytes {
             bytes,
@@ -31,7 +31,7 @@ impl MemBytes {
     /// These bytes. The read or write number `failing`, counted from 0, fails, and each one after it; a write that fails writes its first
     /// `written` bytes.
     pub fn failing(bytes: Vec<u8>, failing: u64, written: usize) -> MemBytes
-        ensures { bytes_of result ≡ bytes.items }
+        ensures { memory_bytes result ≡ bytes.items }
     {
         MemBytes {
             bytes,
@@ -42,14 +42,14 @@ impl MemBytes {
 
     /// The bytes as the writes left them.
     pub fn into_bytes(self) -> Vec<u8>
-        ensures { result.items ≡ bytes_of self }
+        ensures { result.items ≡ memory_bytes self }
     {
         self.bytes
     }
 
     /// Counts a read or a write, and says whether it fails.
     fn count(&mut self) -> bool
-        ensures { bytes_of self.new ≡ bytes_of self.old }
+        ensures { memory_bytes self.new ≡ memory_bytes self.old }
     {
         match self.left {
             None => false,
@@ -71,9 +71,9 @@ pub(crate) fn overwrite(bytes: &mut Vec<u8>, at: usize, new: &[u8])
 }
 
 impl ByteStore for MemBytes {
-    ghost use Rattle.flt_file.specs.MemBytes.{bytes_of};
+    ghost use Rattle.flt_file.specs.MemBytes.{memory_bytes};
 
-    ghost told = { λ store. Some (bytes_of store) };
+    ghost told = { λ store. Some (memory_bytes store) };
 
     fn read(&mut self, out: &mut [u8]) -> Result<(), StoreFault> {
         if self.count() {

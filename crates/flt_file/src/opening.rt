@@ -1,8 +1,8 @@
 //! Opens the file of a flash or of an EEPROM.
 ghost use Rattle.std.specs.Prelude.{◌≡◌, ◌≤◌, IfOk};
-ghost use Rattle.flt_file.specs.FileBytes.{told};
-ghost use Rattle.flt_file.specs.FlashFile.{state_of as flash_state, bytes_of as flash_bytes, first_flash};
-ghost use Rattle.flt_file.specs.EepromFile.{state_of as eeprom_state, bytes_of as eeprom_bytes, first_eeprom};
+ghost use Rattle.flt_file.specs.FileBytes.{file_bytes_told};
+ghost use Rattle.flt_file.specs.FlashFile.{flash_file_state as flash_state, sector_bytes as flash_bytes, first_flash};
+ghost use Rattle.flt_file.specs.EepromFile.{eeprom_file_state as eeprom_state, unit_bytes as eeprom_bytes, first_eeprom};
 
 use crate::{EepromFile, FileBytes, FlashFile, LoadFault, StoreFault};
 use std::alloc::AllocError;
@@ -195,7 +195,7 @@ pub fn open_flash<R: Files<File = File> + AllocGlobal>(
 ) -> Result<FlashFile<FileBytes>, OpenFault>
     requires least { 2 ≤ pages }
     requires most { pages ≤ 1024 }
-    ensures { IfOk result (λ flash. flash_state told flash ≡ first_flash pages (flash_bytes told flash)) }
+    ensures { IfOk result (λ flash. flash_state file_bytes_told flash ≡ first_flash pages (flash_bytes file_bytes_told flash)) }
 {
     let store = open_bytes(rt, path, 64 * pages as usize)?;
     Ok(FlashFile::load(rt.alloc(), store, pages)?)
@@ -212,7 +212,7 @@ pub fn open_eeprom<R: Files<File = File> + AllocGlobal>(
     path: &str,
     units: u16,
 ) -> Result<EepromFile<FileBytes>, OpenFault>
-    ensures { IfOk result (λ device. eeprom_state told device ≡ first_eeprom units (eeprom_bytes told device)) }
+    ensures { IfOk result (λ device. eeprom_state file_bytes_told device ≡ first_eeprom units (eeprom_bytes file_bytes_told device)) }
 {
     let store = open_bytes(rt, path, 32 * units as usize)?;
     Ok(EepromFile::load(rt.alloc(), store, units)?)

@@ -81,7 +81,7 @@ IsTold outside due status =
     ⊎ ((status ≡ 4) × Rose outside.faults outside.faults_after × AppendsFront outside.held outside.held_after due.text)
 
 -- Something came, and its due was told.
-pub record IsAnswered (IsJudged : List ℕ → Due → Type 0) (inside : Inside) (outside : Outside) (status : ℕ) : Type 0 where
+pub record IsInputAnswered (IsJudged : List ℕ → Due → Type 0) (inside : Inside) (outside : Outside) (status : ℕ) : Type 0 where
   pub came : Came
   pub due : Due
   pub cause : HasCome inside came
@@ -95,7 +95,7 @@ pub record WantsMemory (outside : Outside) (status : ℕ) : Type 0 where
 
 -- How a reader ends that judges a whole input: in one of these two ways.
 abbrev pub Tells : (List ℕ → Due → Type 0) → Inside → Outside → ℕ → Type 0
-Tells IsJudged inside outside status = WantsMemory outside status ⊎ IsAnswered IsJudged inside outside status
+Tells IsJudged inside outside status = WantsMemory outside status ⊎ IsInputAnswered IsJudged inside outside status
 
 -- Why an input was not read to its end, where its bytes were not.
 abbrev pub input_fault : StreamFault → InputFault
@@ -109,8 +109,8 @@ IsFaultDue Failed due = due ≡ unread_due
 IsFaultDue TooMany due = due ≡ large_due
 
 -- What was made of an input is due of it; or memory ran out.
-abbrev pub IsMade : (List ℕ → Due → Type 0) → Inside → Option Due → Type 0
-IsMade IsJudged inside made = IfSome made (λ due. (came : Came) × HasCome inside came × IsDue IsJudged came due)
+abbrev pub IsVerdictMade : (List ℕ → Due → Type 0) → Inside → Option Due → Type 0
+IsVerdictMade IsJudged inside made = IfSome made (λ due. (came : Came) × HasCome inside came × IsDue IsJudged came due)
 
 -- What was made is told, or that memory ran out.
 abbrev pub IsToldOf : Outside → Option Due → ℕ → Type 0

@@ -1,6 +1,6 @@
 //! A whole input that is judged, and what is told of it.
 ghost use Rattle.std.specs.Prelude.{ℕ, List, IfOk, option_map};
-ghost use Rattle.flt_filter.specs.Verdict.{Due, IsMade, Tells, due_of, reading_of, writing_of};
+ghost use Rattle.flt_filter.specs.Verdict.{Due, IsVerdictMade, Tells, due_of, reading_of, writing_of};
 
 use crate::reading::read_input;
 use crate::telling::tell;
@@ -20,7 +20,7 @@ pub trait Judge: Drop + Sized {
 
 /// What is told of what a source has left; nothing where memory runs out.
 fn reckon<J: Judge, S: Source>(judge: J, alloc: Global, source: &mut S) -> Option<Verdict>
-    ensures { IsMade (J.is_judged judge) (reading_of S.left S.faults source.old source.new) (option_map due_of result) }
+    ensures { IsVerdictMade (J.is_judged judge) (reading_of S.left S.faults source.old source.new) (option_map due_of result) }
 {
     match read_input(alloc, source) {
         Ok(bytes) => judge.judge(alloc, &bytes).ok(),

@@ -1,6 +1,6 @@
 //! What is told of an input.
 ghost use Rattle.std.specs.Prelude.{◌≡◌, ◌++◌, ◌∷◌, [], IfOk};
-ghost use Rattle.flt_io.specs.Status.{number_of};
+ghost use Rattle.flt_io.specs.Status.{status_number};
 ghost use Rattle.flt_filter.specs.Verdict.{due_of, line_due};
 
 use flt_io::Status;
@@ -16,7 +16,7 @@ pub struct Verdict {
 impl Verdict {
     /// A verdict of one line, which these words make. The error means that memory ran out.
     pub fn line(alloc: Global, status: Status, words: &[u8]) -> Result<Verdict, AllocError>
-        ensures { IfOk result (λ verdict. due_of verdict ≡ line_due (number_of status) words.now) }
+        ensures { IfOk result (λ verdict. due_of verdict ≡ line_due (status_number status) words.now) }
     {
         let mut text = Vec::new(alloc);
         text.extend_from_slice(words)?;

@@ -4,13 +4,13 @@ use Rattle.std.specs.Prelude.{OnOk, IsErrOf}
 use Rattle.flt_flash.specs.Content.{Content}
 use Rattle.flt_flash.specs.State.{HasRisenBy}
 use Rattle.flt_flash.specs.Blocks.{BlocksState}
-use Rattle.flt_flash.specs.Calls.{Follows, Calls, Changes, OthersKept}
+use Rattle.flt_flash.specs.Calls.{Follows, BlockCalls, Changes, OthersKept}
 use Rattle.flt_flash.specs.declared.blocks.BlockFault.{BlockFault}
 use Rattle.flt_flash.specs.declared.blocks.BlockFault.TheVariants.{Flash, Damaged}
 
 -- A call on an image without a fault.
 pub sound_calls : {T : Type 0} {before after : BlocksState} (result : Result T BlockFault) → Follows before after → before.damage ≡ None
-    → (IsErrOf result Flash → HasRisenBy 1 before.device.faults after.device.faults) → ((sector page : ℕ) → IsErrOf result (Damaged sector page) → ⊥) → Calls before after result
+    → (IsErrOf result Flash → HasRisenBy 1 before.device.faults after.device.faults) → ((sector page : ℕ) → IsErrOf result (Damaged sector page) → ⊥) → BlockCalls before after result
 sound_calls {T} {before} {after} result follows sound cause undamaged = record {
   follows = follows;
   flash = cause;

@@ -2,7 +2,7 @@
 use Rattle.std.proofs.Common.{◌≡◌, ℕ, Bool, true, false, Option, Some, None, Result, Ok, Err, refl, sym, ◌∙◌, arith}
 use Rattle.std.specs.Prelude.{OnOk, IsTrue, IsFalse}
 use Rattle.flt_flash.specs.Blocks.{BlocksState}
-use Rattle.flt_flash.specs.Calls.{Follows, Calls, NeverFalls}
+use Rattle.flt_flash.specs.Calls.{Follows, BlockCalls, NeverFalls}
 use Rattle.flt_flash.specs.declared.blocks.BlockFault.{BlockFault}
 use Rattle.flt_flash.proofs.Following.{bench_kept, bench_on}
 
@@ -60,7 +60,7 @@ no_damage_before None after stays none = refl
 no_damage_before (Some p) after stays none = absurd (cc (stays p refl, none))
 
 -- The last of several calls tells how they ended.
-pub calls_after : {T : Type 0} (first second third : BlocksState) (result : Result T BlockFault) → Follows first second → Calls second third result → Calls first third result
+pub calls_after : {T : Type 0} (first second third : BlocksState) (result : Result T BlockFault) → Follows first second → BlockCalls second third result → BlockCalls first third result
 calls_after {T} first second third result one two = record {
   follows = more_calls first second third one two.follows;
   flash = λ told. (let rose = two.flash told in omega (arith, one.counts, rose));

@@ -2,7 +2,7 @@
 use Rattle.std.proofs.Common.{ℕ, Option, Result}
 use Rattle.flt_flash.specs.Content.{Content}
 use Rattle.flt_flash.specs.Blocks.{BlocksState, IsFull, recounted}
-use Rattle.flt_flash.specs.Calls.{Follows, Calls, Changes, Costs, ReadsAlone}
+use Rattle.flt_flash.specs.Calls.{Follows, BlockCalls, Changes, Costs, ReadsAlone}
 use Rattle.flt_flash.specs.declared.blocks.BlockFault.{BlockFault}
 
 module _ (earlier : ℕ) (failed : Option ℕ) (later : ℕ) (failed_later : Option ℕ) (before after : BlocksState) where
@@ -20,7 +20,7 @@ module _ (earlier : ℕ) (failed : Option ℕ) (later : ℕ) (failed_later : Opt
     bench = follows.bench;
   }
 
-  pub calls_recounted : {T : Type 0} {result : Result T BlockFault} → Calls before after result → Calls (recounted earlier failed before) (recounted later failed_later after) result
+  pub calls_recounted : {T : Type 0} {result : Result T BlockFault} → BlockCalls before after result → BlockCalls (recounted earlier failed before) (recounted later failed_later after) result
   calls_recounted calls = record {
     follows = follows_recounted calls.follows;
     flash = calls.flash;

@@ -7,7 +7,7 @@ use Rattle.flt_flash.specs.State.{PowerUp}
 use Rattle.flt_flash.specs.Changes.{blank_image, changed_by, AreReached}
 use Rattle.flt_flash.specs.Image.{page_at}
 use Rattle.flt_flash.specs.PageArrays.{all_pages}
-use Rattle.flt_flash.specs.Boots.{two_sectors, pages_then, boot_of, boots_of, AddsOne, boot_at, no_boot}
+use Rattle.flt_flash.specs.Boots.{two_sectors, pages_then, power_up_of, boots_of, AddsOne, boot_at, no_boot}
 use Rattle.flt_flash.specs.declared.boot.BootMark.{BootMark}
 use Rattle.flt_flash.specs.declared.boot.PageChange.{PageChange}
 use Rattle.flt_flash.specs.declared.boot.Boots.{Boots}
@@ -40,19 +40,19 @@ module _ (before after : Boots) (faults count : ℕ) (added : List PageChange)
   last_pages : pages_then after count ≡ all_pages after.first ++ all_pages after.second
   last_pages = ap (changed_by (blank_image (after.first.count + after.second.count))) (ap (λ n. take n after.changes.items) counts ∙ take-length after.changes.items) ∙ sym after.last_is
 
-  boot_stays : (divided : List (List ℕ) → List (List (List ℕ))) (mark : BootMark) → mark.changes ≤ length before.changes.items → boot_of divided after mark ≡ boot_of divided before mark
+  boot_stays : (divided : List (List ℕ) → List (List (List ℕ))) (mark : BootMark) → mark.changes ≤ length before.changes.items → power_up_of divided after mark ≡ power_up_of divided before mark
   boot_stays divided mark within = ap {B = PowerUp} (λ pages. record { faults = mark.faults; image = divided pages }) (pages_stay mark within)
 
-  boots_stay : (divided : List (List ℕ) → List (List (List ℕ))) → map (boot_of divided after) before.marks.items ≡ boots_of divided before
-  boots_stay divided = map_same (boot_of divided after) (boot_of divided before) before.marks.items
-      (All-weaker (λ (mark : BootMark). mark.changes ≤ length before.changes.items) (λ (mark : BootMark). boot_of divided after mark ≡ boot_of divided before mark) (boot_stays divided) before.marks.items before.reached)
+  boots_stay : (divided : List (List ℕ) → List (List (List ℕ))) → map (power_up_of divided after) before.marks.items ≡ boots_of divided before
+  boots_stay divided = map_same (power_up_of divided after) (power_up_of divided before) before.marks.items
+      (All-weaker (λ (mark : BootMark). mark.changes ≤ length before.changes.items) (λ (mark : BootMark). power_up_of divided after mark ≡ power_up_of divided before mark) (boot_stays divided) before.marks.items before.reached)
 
   pub adds_one : (pages : List (List ℕ)) → all_pages after.first ++ all_pages after.second ≡ pages → after.most ≡ before.most → AddsOne faults pages before after
   adds_one pages is most = record {
     boots = λ divided.
-        ap (map (boot_of divided after)) marks
-        ∙ map_push (boot_of divided after) before.marks.items (record { faults = faults; changes = count })
-        ∙ ap (λ earlier. earlier ++ boot_of divided after (record { faults = faults; changes = count }) ∷ []) (boots_stay divided)
+        ap (map (power_up_of divided after)) marks
+        ∙ map_push (power_up_of divided after) before.marks.items (record { faults = faults; changes = count })
+        ∙ ap (λ earlier. earlier ++ power_up_of divided after (record { faults = faults; changes = count }) ∷ []) (boots_stay divided)
         ∙ ap (λ (image : List (List ℕ)). boots_of divided before ++ record { faults = faults; image = divided image } ∷ []) (last_pages ∙ is);
     left = omega (arith, most, ap length marks ∙ length_push before.marks.items (record { faults = faults; changes = count }));
     first = first;
@@ -65,8 +65,8 @@ no_mark = record { faults = 0; changes = 0 }
 
 -- A page of a boot of two sectors.
 module _ (pages number page : ℕ) (boots : Boots) (within : number < length boots.marks.items) where
-  here : boot_at (boots_of (two_sectors pages) boots) number ≡ boot_of (two_sectors pages) boots (get_or boots.marks.items number no_mark)
-  here = get_or-map (boot_of (two_sectors pages) boots) boots.marks.items number no_mark no_boot within
+  here : boot_at (boots_of (two_sectors pages) boots) number ≡ power_up_of (two_sectors pages) boots (get_or boots.marks.items number no_mark)
+  here = get_or-map (power_up_of (two_sectors pages) boots) boots.marks.items number no_mark no_boot within
 
   pub first_page : page < pages → get_or (pages_then boots (get_or boots.marks.items number no_mark).changes) page [] ≡ page_at (boot_at (boots_of (two_sectors pages) boots) number).image 0 page
   first_page inside = sym (get_or-take pages (pages_then boots (get_or boots.marks.items number no_mark).changes) page [] inside) ∙ ap (λ (boot : PowerUp). page_at boot.image 0 page) (sym here)

@@ -63,9 +63,9 @@ abbrev pub standing_after_read : ℕ → ℕ → List Arm → List Arm
 standing_after_read sector page arms = filter stands (map (after_read sector page) arms)
 
 -- The arms made with one more, told while there are 64 at most.
-abbrev pub told_with : Option (List ArmMade) → ArmMade → Option (List ArmMade)
-told_with None made = None
-told_with (Some earlier) made = if nat_lt (length earlier) 64 then Some (earlier ++ made ∷ []) else None
+abbrev pub arms_told_with : Option (List ArmMade) → ArmMade → Option (List ArmMade)
+arms_told_with None made = None
+arms_told_with (Some earlier) made = if nat_lt (length earlier) 64 then Some (earlier ++ made ∷ []) else None
 
 -- Whether a bit takes effect, of a byte that lies in the tail or not.
 abbrev pub takes_effect : Pattern → Bool → ℕ → Bool

@@ -18,12 +18,12 @@ abbrev pub pages_then : Boots → ℕ → List (List ℕ)
 pages_then boots changes = changed_by (blank_image (boots.first.count + boots.second.count)) (take changes boots.changes.items)
 
 -- A power-up of a device whose pages are divided so into sectors.
-abbrev pub boot_of : (List (List ℕ) → List (List (List ℕ))) → Boots → BootMark → PowerUp
-boot_of divided boots mark = record { faults = mark.faults; image = divided (pages_then boots mark.changes) }
+abbrev pub power_up_of : (List (List ℕ) → List (List (List ℕ))) → Boots → BootMark → PowerUp
+power_up_of divided boots mark = record { faults = mark.faults; image = divided (pages_then boots mark.changes) }
 
 -- All of them.
 abbrev pub boots_of : (List (List ℕ) → List (List (List ℕ))) → Boots → List PowerUp
-boots_of divided boots = map (boot_of divided boots) boots.marks.items
+boots_of divided boots = map (power_up_of divided boots) boots.marks.items
 
 -- How many may still come.
 abbrev pub left_of : Boots → ℕ

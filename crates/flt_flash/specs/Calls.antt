@@ -1,7 +1,7 @@
 -- What each call of a driver of blocks leaves.
 use Rattle.std.specs.Prelude.{◌≡◌, ◌≢◌, ◌⊎◌, ◌≤◌, ◌+◌, ◌*◌, ◌^◌, ℕ, true, List, ◌++◌, length, drop, Option, Some, None, Result, Ok, Err, IsTrue, IsFalse, IfSome, IsSomeAnd, OnOk, IsErrOf}
 use Rattle.flt_flash.specs.Content.{Content, missing, invalid, bytes, size_of}
-use Rattle.flt_flash.specs.State.{HasRisenBy, counted, last_count, KeepsBench, AddsArm, AddsBoot}
+use Rattle.flt_flash.specs.State.{HasRisenBy, counted_up, last_count, KeepsBench, AddsArm, AddsBoot}
 use Rattle.flt_flash.specs.Blocks.{BlocksState, IsFull, byte_pages, record_pages}
 use Rattle.flt_flash.specs.declared.arm.Arm.{Arm}
 use Rattle.flt_flash.specs.declared.blocks.Found.{Found}
@@ -48,7 +48,7 @@ pub record Follows (before after : BlocksState) : Type 0 where
 
 -- One mount, write, read or invalidate: a fault of the flash has its cause, a fault of the image is told by a mount
 -- alone, before one has answered Ok, and none is passed over.
-pub record Calls {T : Type 0} (before after : BlocksState) (result : Result T BlockFault) : Type 0 where
+pub record BlockCalls {T : Type 0} (before after : BlocksState) (result : Result T BlockFault) : Type 0 where
   pub follows : Follows before after
   pub flash : IsErrOf result Flash → HasRisenBy 1 before.device.faults after.device.faults
   pub damaged : (sector page : ℕ) → IsErrOf result (Damaged sector page) → (before.damage ≡ Some (sector, page)) × IsFalse before.has_mounted
@@ -56,7 +56,7 @@ pub record Calls {T : Type 0} (before after : BlocksState) (result : Result T Bl
 
 -- One mount, write, read or invalidate more was made.
 abbrev pub CountsCall : BlocksState → BlocksState → Type 0
-CountsCall before after = after.calls ≡ counted before.calls
+CountsCall before after = after.calls ≡ counted_up before.calls
 
 -- The block of the last call that the flash failed, after a call of this block that was answered by this fault.
 abbrev pub failed_by : ℕ → Option ℕ → BlockFault → Option ℕ
@@ -109,7 +109,7 @@ pub record Changes (before after : BlocksState) (block : ℕ) (asked : Content) 
 -- A call that reads alone: no block changes, no sequence number is used, and on a driver that was not stale nothing is written.
 pub record ReadsAlone {T : Type 0} (before after : BlocksState) (result : Result T BlockFault) : Type 0 where
   pub values : SameValues before after
-  pub calls : Calls before after result
+  pub calls : BlockCalls before after result
   pub never_full : NeverFull result
   pub spent : SameSpent before after
   pub settled : OnOk result (IsFalse after.is_stale)

@@ -24,24 +24,24 @@ pub record Written : Type 0 where
   pub fails : Option Pattern
   pub after : PowerState
 
-abbrev pub written : PowerState → Option Pattern → PowerState → Written
-written before fails after = record { before = before; fails = fails; after = after }
+abbrev pub written_as : PowerState → Option Pattern → PowerState → Written
+written_as before fails after = record { before = before; fails = fails; after = after }
 
 -- An arm acts at its number and is gone then; a cut comes before a fault, and of one kind the one made first; arms that meet there are all
 -- gone, and mutes stay. A cut turns the power off. While it is off each operation fails, without effect, and no arm counts it. Counts stay
 -- at their greatest number.
 abbrev pub writes : List Written
 writes =
-    written (power_on 0 0 []) None (power_on 0 1 [])
-    ∷ written (power_on 0 5 (Cut 2 Tail ∷ [])) None (power_on 0 6 (Cut 1 Tail ∷ []))
-    ∷ written (power_on 0 6 (Cut 1 Tail ∷ [])) (Some Tail) (power_off 1 7 [])
-    ∷ written (power_on 3 0 (Fault 1 Odd ∷ Fault 2 All ∷ [])) (Some Odd) (power_on 4 1 (Fault 1 All ∷ []))
-    ∷ written (power_on 0 0 (Fault 1 Odd ∷ Cut 1 All ∷ [])) (Some All) (power_off 1 1 [])
-    ∷ written (power_on 0 0 (Fault 1 Odd ∷ Fault 1 All ∷ [])) (Some Odd) (power_on 1 1 [])
-    ∷ written (power_on 0 0 (Cut 1 Nothing ∷ Cut 1 All ∷ [])) (Some Nothing) (power_off 1 1 [])
-    ∷ written (power_on 0 0 (Mute 0 3 2 ∷ Fault 1 Tail ∷ Cut 2 All ∷ [])) (Some Tail) (power_on 1 1 (Mute 0 3 2 ∷ Cut 1 All ∷ []))
-    ∷ written (power_off 1 1 (Cut 1 All ∷ Mute 0 3 2 ∷ [])) (Some Nothing) (power_off 2 2 (Cut 1 All ∷ Mute 0 3 2 ∷ []))
-    ∷ written (power_off (2 ^ 64 - 1) (2 ^ 64 - 1) []) (Some Nothing) (power_off (2 ^ 64 - 1) (2 ^ 64 - 1) [])
+    written_as (power_on 0 0 []) None (power_on 0 1 [])
+    ∷ written_as (power_on 0 5 (Cut 2 Tail ∷ [])) None (power_on 0 6 (Cut 1 Tail ∷ []))
+    ∷ written_as (power_on 0 6 (Cut 1 Tail ∷ [])) (Some Tail) (power_off 1 7 [])
+    ∷ written_as (power_on 3 0 (Fault 1 Odd ∷ Fault 2 All ∷ [])) (Some Odd) (power_on 4 1 (Fault 1 All ∷ []))
+    ∷ written_as (power_on 0 0 (Fault 1 Odd ∷ Cut 1 All ∷ [])) (Some All) (power_off 1 1 [])
+    ∷ written_as (power_on 0 0 (Fault 1 Odd ∷ Fault 1 All ∷ [])) (Some Odd) (power_on 1 1 [])
+    ∷ written_as (power_on 0 0 (Cut 1 Nothing ∷ Cut 1 All ∷ [])) (Some Nothing) (power_off 1 1 [])
+    ∷ written_as (power_on 0 0 (Mute 0 3 2 ∷ Fault 1 Tail ∷ Cut 2 All ∷ [])) (Some Tail) (power_on 1 1 (Mute 0 3 2 ∷ Cut 1 All ∷ []))
+    ∷ written_as (power_off 1 1 (Cut 1 All ∷ Mute 0 3 2 ∷ [])) (Some Nothing) (power_off 2 2 (Cut 1 All ∷ Mute 0 3 2 ∷ []))
+    ∷ written_as (power_off (2 ^ 64 - 1) (2 ^ 64 - 1) []) (Some Nothing) (power_off (2 ^ 64 - 1) (2 ^ 64 - 1) [])
     ∷ []
 
 -- A read of page 3 of sector 0: the power before it, whether it fails, and the power behind it.

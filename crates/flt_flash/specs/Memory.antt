@@ -8,8 +8,8 @@ use Rattle.flt_flash.specs.Made.{arms_told}
 use Rattle.flt_flash.specs.Power.{PowerState, power_state}
 
 -- The flash as every user of a flash sees it.
-abbrev pub state_of : FlashMem → FlashState
-state_of flash = record {
+abbrev pub flash_state : FlashMem → FlashState
+flash_state flash = record {
   pages = flash.pages;
   image = all_pages flash.first ∷ all_pages flash.second ∷ [];
   is_off = flash.power.is_off;

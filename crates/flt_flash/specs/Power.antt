@@ -7,7 +7,7 @@ use Rattle.flt_flash.specs.declared.arm.Pattern.{Pattern}
 use Rattle.flt_flash.specs.declared.arm.Pattern.TheVariants.{Nothing}
 use Rattle.flt_flash.specs.declared.flash.FlashFailed.{FlashFailed}
 use Rattle.flt_flash.specs.declared.power.Power.{Power}
-use Rattle.flt_flash.specs.State.{counted}
+use Rattle.flt_flash.specs.State.{counted_up}
 use Rattle.flt_flash.specs.Arms.{after_write, acting, mutes, standing_after_write, standing_after_read}
 
 -- The power, its counts, and the arms that stand, in the order in which they were made.
@@ -55,8 +55,8 @@ read_fails sector page power = power.is_off || list_any (mutes sector page) powe
 abbrev pub power_after_write : PowerState → PowerState
 power_after_write power = record {
   is_off = power.is_off || cuts (next_arm power);
-  faults = if is_some (failing_by power) then counted power.faults else power.faults;
-  operations = counted power.operations;
+  faults = if is_some (failing_by power) then counted_up power.faults else power.faults;
+  operations = counted_up power.operations;
   standing = if power.is_off then power.standing else standing_after_write power.standing;
 }
 
@@ -64,8 +64,8 @@ power_after_write power = record {
 abbrev pub power_after_read : ℕ → ℕ → PowerState → PowerState
 power_after_read sector page power = record {
   is_off = power.is_off;
-  faults = if read_fails sector page power then counted power.faults else power.faults;
-  operations = counted power.operations;
+  faults = if read_fails sector page power then counted_up power.faults else power.faults;
+  operations = counted_up power.operations;
   standing = if power.is_off then power.standing else standing_after_read sector page power.standing;
 }
 

@@ -15,8 +15,8 @@ abbrev pub HasRisenBy : ℕ → ℕ → ℕ → Type 0
 HasRisenBy many before after = min (before + many) (2 ^ 64 - 1) ≤ after
 
 -- One more, as far as the count goes.
-abbrev pub counted : ℕ → ℕ
-counted before = min (before + 1) (2 ^ 64 - 1)
+abbrev pub counted_up : ℕ → ℕ
+counted_up before = min (before + 1) (2 ^ 64 - 1)
 
 -- A count as far as it goes.
 abbrev pub as_counted : ℕ → ℕ
@@ -74,7 +74,7 @@ pub record Operates {T : Type 0} (before after : FlashState) (result : Result T 
   pub stays_off : IsTrue before.is_off → IsTrue after.is_off
   pub stays_while_off : IsTrue before.is_off → after.image ≡ before.image
   pub counts_for_no_arm : IsTrue before.is_off → after.bench ≡ before.bench
-  pub operations : after.operations ≡ counted before.operations
+  pub operations : after.operations ≡ counted_up before.operations
   pub erases : erases_of before.wear ≤ erases_of after.wear
   pub bench : KeepsBench before.bench after.bench
 

@@ -4,7 +4,7 @@ ghost use Rattle.flt_flash.specs.Content.{invalid, bytes as holding, IsShort};
 ghost use Rattle.flt_flash.specs.State.{CanArm};
 ghost use Rattle.flt_flash.specs.Blocks.{BlocksState};
 ghost use Rattle.flt_flash.specs.declared.blocks.BlockFault.TheVariants.{Flash};
-ghost use Rattle.flt_flash.specs.Calls.{Follows, Calls, CountsCallOf, CountsMount, NeverFull, Changes, Costs, MountCosts, ReadCosts, ReadsAlone, SameSpent, SameValues, Settles, ReadsContent, found_of, ArmsDriver, PowersUpDriver};
+ghost use Rattle.flt_flash.specs.Calls.{Follows, BlockCalls, CountsCallOf, CountsMount, NeverFull, Changes, Costs, MountCosts, ReadCosts, ReadsAlone, SameSpent, SameValues, Settles, ReadsContent, found_of, ArmsDriver, PowersUpDriver};
 
 use crate::{Arm, FlashFailed};
 use thiserror::Error;
@@ -68,7 +68,7 @@ pub trait Blocks {
     /// At `Err` nothing was written: after `Flash` mount again; after `Damaged` only a new image helps.
     fn mount(&mut self) -> Result<(), BlockFault>
         ensures values { SameValues (state self.old) (state self.new) }
-        ensures calls { Calls (state self.old) (state self.new) result }
+        ensures calls { BlockCalls (state self.old) (state self.new) result }
         ensures once { CountsMount (state self.old) (state self.new) }
         ensures never_full { NeverFull result }
         ensures stale { Settles result (state self.new) }
@@ -88,7 +88,7 @@ pub trait Blocks {
         requires least { 1 ≤ length bytes.now }
         requires most { length bytes.now ≤ 128 }
         ensures changes { Changes (state self.old) (state self.new) block (holding bytes.now) (length bytes.now) result }
-        ensures calls { Calls (state self.old) (state self.new) result }
+        ensures calls { BlockCalls (state self.old) (state self.new) result }
         ensures once { CountsCallOf block (state self.old) (state self.new) result }
         ensures stale { Settles result (state self.new) }
         ensures costs { Costs (state self.old) (state self.new) (length bytes.now) };
@@ -117,7 +117,7 @@ pub trait Blocks {
     fn invalidate(&mut self, block: u16) -> Result<(), BlockFault>
         requires { Contains (state self.old).numbers block }
         ensures changes { Changes (state self.old) (state self.new) block invalid 0 result }
-        ensures calls { Calls (state self.old) (state self.new) result }
+        ensures calls { BlockCalls (state self.old) (state self.new) result }
         ensures once { CountsCallOf block (state self.old) (state self.new) result }
         ensures stale { Settles result (state self.new) }
         ensures costs { Costs (state self.old) (state self.new) 0 };

@@ -2,7 +2,7 @@
 ghost use Rattle.std.specs.Prelude.{◌≡◌, ◌<◌, OnOk, OnErr, slice_index, slice_set};
 ghost use Rattle.flt_flash.specs.Image.{page_at, programmed, erased, blank_page};
 ghost use Rattle.flt_flash.specs.Tearing.{IsTorn};
-ghost use Rattle.flt_flash.specs.State.{FlashState, HasShape, Operates, counted, CanArm, Arms, PowersUp};
+ghost use Rattle.flt_flash.specs.State.{FlashState, HasShape, Operates, counted_up, CanArm, Arms, PowersUp};
 
 use crate::Arm;
 use thiserror::Error;
@@ -50,7 +50,7 @@ pub trait Flash {
         requires { sector < 2 }
         ensures erased { OnOk result ((state self.new).image ≡ erased (state self.old).image sector) }
         ensures torn { OnErr result (IsTorn (state self.old).image (erased (state self.old).image sector) (state self.new).image) }
-        ensures wear { (state self.new).wear ≡ slice_set (state self.old).wear sector (counted (slice_index (state self.old).wear sector)) }
+        ensures wear { (state self.new).wear ≡ slice_set (state self.old).wear sector (counted_up (slice_index (state self.old).wear sector)) }
         ensures operation { Operates (state self.old) (state self.new) result };
 
     /// How many reads, programs and erases were made, failed ones too. It stays at 2^64 - 1.

@@ -1,6 +1,6 @@
 //! The arms that were made on a device in memory.
 ghost use Rattle.std.specs.Prelude.{◌≡◌, [], Some};
-ghost use Rattle.flt_flash.specs.Arms.{told_with};
+ghost use Rattle.flt_flash.specs.Arms.{arms_told_with};
 
 use crate::ArmMade;
 use arrayvec::ArrayVec;
@@ -29,7 +29,7 @@ impl ArmsTold {
 
     /// Takes an arm that is made.
     pub fn take(&mut self, made: ArmMade)
-        ensures { arms_told self.new ≡ told_with (arms_told self.old) made }
+        ensures { arms_told self.new ≡ arms_told_with (arms_told self.old) made }
     {
         if self.made.is_full() {
             self.are_all = false;

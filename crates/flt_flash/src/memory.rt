@@ -1,9 +1,9 @@
 //! A flash in memory, and the bench that cuts its power and makes its operations fail.
 ghost use Rattle.std.specs.Prelude.{◌≡◌, false, ℕ, ◌^◌, ◌+◌, ◌-◌, ◌*◌, ◌/◌, ◌%◌, ◌<◌, ◌≤◌, take, drop, [], ◌∷◌, ◌++◌, length, replicate, Some, IfNone, IfSome, OnSome, is_err, is_some, OnOk, OnErr, IfOk, slice_index, slice_set};
-ghost use Rattle.flt_flash.specs.State.{first_state, Operates, counted, CanArm, Arms, PowersUp};
+ghost use Rattle.flt_flash.specs.State.{first_state, Operates, counted_up, CanArm, Arms, PowersUp};
 ghost use Rattle.flt_flash.specs.Tearing.{IsTorn};
 ghost use Rattle.flt_flash.specs.Image.{page_at, sector_at, programmed, erased, blank_page};
-ghost use Rattle.flt_flash.specs.Arms.{IsProgrammedBy, IsErasedBy, told_with};
+ghost use Rattle.flt_flash.specs.Arms.{IsProgrammedBy, IsErasedBy, arms_told_with};
 ghost use Rattle.flt_flash.specs.Power.{first_power};
 ghost use Rattle.flt_flash.specs.PageArrays.{all_pages};
 
@@ -38,14 +38,14 @@ pub struct FlashMem {
 }
 
 impl FlashMem {
-    ghost use Rattle.flt_flash.specs.Memory.{state_of, power_of};
+    ghost use Rattle.flt_flash.specs.Memory.{flash_state, power_of};
     ghost use Rattle.flt_flash.specs.Boots.{boot_at};
 
     /// A blank flash of two sectors of 2 to 1,024 pages, whose power may come back `boots` times. The error means that memory ran out.
     pub fn blank(alloc: Global, pages: u16, boots: u16) -> Result<FlashMem, AllocError>
         requires least { 2 ≤ pages }
         requires most { pages ≤ 1024 }
-        ensures state { IfOk result (λ flash. state_of flash ≡ first_state pages (replicate pages blank_page) (replicate pages blank_page) boots) }
+        ensures state { IfOk result (λ flash. flash_state flash ≡ first_state pages (replicate pages blank_page) (replicate pages blank_page) boots) }
         ensures power { IfOk result (λ flash. power_of flash ≡ first_power) }
     {
         let first = PageArray::blank(alloc, pages as usize)?;
@@ -60,7 +60,7 @@ impl FlashMem {
         requires least { 4 ≤ length image.items }
         requires most { length image.items ≤ 2048 }
         ensures state { IfOk result (λ flash. let pages = length image.items / 2 in
-            state_of flash ≡ first_state pages (take pages image.items) (drop pages image.items) boots) }
+            flash_state flash ≡ first_state pages (take pages image.items) (drop pages image.items) boots) }
         ensures power { IfOk result (λ flash. power_of flash ≡ first_power) }
     {
         let pages = image.len() / 2;
@@ -78,7 +78,7 @@ impl FlashMem {
     ) -> Result<FlashMem, AllocError>
         requires first { first.count ≡ pages }
         requires second { second.count ≡ pages }
-        ensures state { IfOk result (λ flash. state_of flash ≡ first_state pages (all_pages first) (all_pages second) boots) }
+        ensures state { IfOk result (λ flash. flash_state flash ≡ first_state pages (all_pages first) (all_pages second) boots) }
         ensures power { IfOk result (λ flash. power_of flash ≡ first_power) }
     {
         let boots = Boots::reserved(alloc, pages as usize, pages as usize, boots)?;
@@ -102,8 +102,8 @@ impl FlashMem {
     /// A page as it is; it counts for no operation.
     pub fn page(&self, sector: u8, page: u16) -> &[u8; 32]
         requires sector { sector < 2 }
-        requires page { page < (state_of self.now).pages }
-        ensures { result.now ≡ page_at (state_of self.now).image sector page }
+        requires page { page < (flash_state self.now).pages }
+        ensures { result.now ≡ page_at (flash_state self.now).image sector page }
     {
         if sector == 0 {
             self.first.page(page as usize)
@@ -114,10 +114,10 @@ impl FlashMem {
 
     /// A page as it was at a power-up, the first one being number 0. There is one for each `power_up`.
     pub fn boot_page(&self, boot: u16, sector: u8, page: u16) -> &[u8; 32]
-        requires boot { boot < length (state_of self.now).bench.boots }
+        requires boot { boot < length (flash_state self.now).bench.boots }
         requires sector { sector < 2 }
-        requires page { page < (state_of self.now).pages }
-        ensures { result.now ≡ page_at (boot_at (state_of self.now).bench.boots boot).image sector page }
+        requires page { page < (flash_state self.now).pages }
+        ensures { result.now ≡ page_at (boot_at (flash_state self.now).bench.boots boot).image sector page }
     {
         if sector == 0 {
             self.boots.page(boot, page as usize)
@@ -128,11 +128,11 @@ impl FlashMem {
 }
 
 impl Flash for FlashMem {
-    ghost use Rattle.flt_flash.specs.Memory.{state_of, power_of};
+    ghost use Rattle.flt_flash.specs.Memory.{flash_state, power_of};
     ghost use Rattle.flt_flash.specs.Shape.{shape_of};
     ghost use Rattle.flt_flash.specs.Power.{FailsByArms, read_fails, failing_by, power_after_write, power_after_read};
 
-    ghost state = { state_of };
+    ghost state = { flash_state };
 
     ghost shape = { shape_of };
 
@@ -142,12 +142,12 @@ impl Flash for FlashMem {
 
     fn read_page(&mut self, sector: u8, page: u16, out: &mut [u8; 32]) -> Result<(), FlashFailed>
         requires sector { sector < 2 }
-        requires page { page < (state_of self.old).pages }
-        ensures read { OnOk result (out.new ≡ page_at (state_of self.old).image sector page) }
-        ensures image { (state_of self.new).image ≡ (state_of self.old).image }
-        ensures off { (state_of self.new).is_off ≡ (state_of self.old).is_off }
-        ensures wear { (state_of self.new).wear ≡ (state_of self.old).wear }
-        ensures operation { Operates (state_of self.old) (state_of self.new) result }
+        requires page { page < (flash_state self.old).pages }
+        ensures read { OnOk result (out.new ≡ page_at (flash_state self.old).image sector page) }
+        ensures image { (flash_state self.new).image ≡ (flash_state self.old).image }
+        ensures off { (flash_state self.new).is_off ≡ (flash_state self.old).is_off }
+        ensures wear { (flash_state self.new).wear ≡ (flash_state self.old).wear }
+        ensures operation { Operates (flash_state self.old) (flash_state self.new) result }
 
         // It fails exactly where the power is off or an arm mutes the page, and uses up the arms that mute it.
         ensures fails { is_err result ≡ read_fails sector page (power_of self.old) }
@@ -162,16 +162,16 @@ impl Flash for FlashMem {
 
     fn program(&mut self, sector: u8, page: u16, bytes: &[u8; 32]) -> Result<(), FlashFailed>
         requires sector { sector < 2 }
-        requires page { page < (state_of self.old).pages }
-        requires blank { page_at (state_of self.old).image sector page ≡ blank_page }
-        ensures programmed { OnOk result ((state_of self.new).image ≡ programmed (state_of self.old).image sector page bytes.now) }
-        ensures torn { OnErr result (IsTorn (state_of self.old).image (programmed (state_of self.old).image sector page bytes.now) (state_of self.new).image) }
-        ensures wear { (state_of self.new).wear ≡ (state_of self.old).wear }
-        ensures operation { Operates (state_of self.old) (state_of self.new) result }
+        requires page { page < (flash_state self.old).pages }
+        requires blank { page_at (flash_state self.old).image sector page ≡ blank_page }
+        ensures programmed { OnOk result ((flash_state self.new).image ≡ programmed (flash_state self.old).image sector page bytes.now) }
+        ensures torn { OnErr result (IsTorn (flash_state self.old).image (programmed (flash_state self.old).image sector page bytes.now) (flash_state self.new).image) }
+        ensures wear { (flash_state self.new).wear ≡ (flash_state self.old).wear }
+        ensures operation { Operates (flash_state self.old) (flash_state self.new) result }
 
         // It fails exactly where the power is off or an arm stands at it, and is torn by the pattern.
         ensures fails { FailsByArms (power_of self.old) (power_of self.new) result (λ pattern.
-            IsProgrammedBy pattern (sector_at (state_of self.old).image sector) page bytes.now (sector_at (state_of self.new).image sector)) }
+            IsProgrammedBy pattern (sector_at (flash_state self.old).image sector) page bytes.now (sector_at (flash_state self.new).image sector)) }
     {
         let failing = self.power.count_write();
         if sector == 0 {
@@ -184,16 +184,16 @@ impl Flash for FlashMem {
 
     fn erase(&mut self, sector: u8) -> Result<(), FlashFailed>
         requires { sector < 2 }
-        ensures erased { OnOk result ((state_of self.new).image ≡ erased (state_of self.old).image sector) }
-        ensures torn { OnErr result (IsTorn (state_of self.old).image (erased (state_of self.old).image sector) (state_of self.new).image) }
-        ensures wear { (state_of self.new).wear ≡ slice_set (state_of self.old).wear sector (counted (slice_index (state_of self.old).wear sector)) }
-        ensures operation { Operates (state_of self.old) (state_of self.new) result }
+        ensures erased { OnOk result ((flash_state self.new).image ≡ erased (flash_state self.old).image sector) }
+        ensures torn { OnErr result (IsTorn (flash_state self.old).image (erased (flash_state self.old).image sector) (flash_state self.new).image) }
+        ensures wear { (flash_state self.new).wear ≡ slice_set (flash_state self.old).wear sector (counted_up (slice_index (flash_state self.old).wear sector)) }
+        ensures operation { Operates (flash_state self.old) (flash_state self.new) result }
 
         // It fails exactly where the power is off or an arm stands at it, and is torn by the pattern.
         ensures fails { is_err result ≡ is_some (failing_by (power_of self.old)) }
         ensures power { power_of self.new ≡ power_after_write (power_of self.old) }
         ensures by_pattern { IfSome (failing_by (power_of self.old)) (λ pattern.
-            IsErasedBy pattern (sector_at (state_of self.old).image sector) (sector_at (state_of self.new).image sector)) }
+            IsErasedBy pattern (sector_at (flash_state self.old).image sector) (sector_at (flash_state self.new).image sector)) }
     {
         let failing = self.power.count_write();
         if sector == 0 {
@@ -220,7 +220,7 @@ impl Flash for FlashMem {
 }
 
 impl Bench for FlashMem {
-    ghost use Rattle.flt_flash.specs.Memory.{state_of, power_of};
+    ghost use Rattle.flt_flash.specs.Memory.{flash_state, power_of};
 
     fn boots_left(&self) -> u16 {
         self.boots.left()
@@ -231,14 +231,14 @@ impl Bench for FlashMem {
     }
 
     fn arm(&mut self, arm: Arm)
-        requires room { (state_of self.old).bench.armed < 64 }
+        requires room { (flash_state self.old).bench.armed < 64 }
         requires number { CanArm arm }
-        ensures arms { Arms arm (state_of self.old) (state_of self.new) }
+        ensures arms { Arms arm (flash_state self.old) (flash_state self.new) }
 
         // The arm stands behind those that stood, and is told where at most 64 were made.
         ensures power { power_of self.new ≡ record (power_of self.old) { standing = (power_of self.old).standing ++ arm ∷ [] } }
-        ensures told { (state_of self.new).bench.arms ≡ told_with (state_of self.old).bench.arms
-            (record { arm = arm; boots = length (state_of self.old).bench.boots; faults = (state_of self.old).faults }) }
+        ensures told { (flash_state self.new).bench.arms ≡ arms_told_with (flash_state self.old).bench.arms
+            (record { arm = arm; boots = length (flash_state self.old).bench.boots; faults = (flash_state self.old).faults }) }
     {
         self.power.standing.push(arm);
         self.arms.take(ArmMade {
@@ -249,8 +249,8 @@ impl Bench for FlashMem {
     }
 
     fn power_up(&mut self)
-        requires { 0 < (state_of self.old).bench.boots_left }
-        ensures powers_up { PowersUp (state_of self.old) (state_of self.new) }
+        requires { 0 < (flash_state self.old).bench.boots_left }
+        ensures powers_up { PowersUp (flash_state self.old) (flash_state self.new) }
 
         // The arms that stood stand.
         ensures power { power_of self.new ≡ record (power_of self.old) { is_off = false } }

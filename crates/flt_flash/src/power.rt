@@ -2,7 +2,7 @@
 ghost use Rattle.std.specs.Prelude.{◌≡◌, ◌≤◌, ◌||◌, if◌then◌else◌, is_some, map};
 ghost use Rattle.std.specs.List.{filter, find, list_any};
 ghost use Rattle.arrayvec.specs.ArrayVec.{array_vec_len};
-ghost use Rattle.flt_flash.specs.State.{counted};
+ghost use Rattle.flt_flash.specs.State.{counted_up};
 ghost use Rattle.flt_flash.specs.Arms.{after_write, mutes, after_read, stands, acting, standing_after_write, standing_after_read, is_due_cut, is_due_fault};
 
 use crate::{Arm, Pattern};
@@ -85,7 +85,7 @@ impl Power {
     ghost use Rattle.flt_flash.specs.Power.{power_state, next_arm, cuts, failing_by, read_fails};
 
     fn count_fault(&mut self)
-        ensures { self.new ≡ record self.old { faults = counted self.old.faults } }
+        ensures { self.new ≡ record self.old { faults = counted_up self.old.faults } }
     {
         self.faults = self.faults.saturating_add(1);
     }
@@ -94,8 +94,8 @@ impl Power {
     pub fn count_write(&mut self) -> Option<Pattern>
         ensures fails { result ≡ failing_by (power_state self.old) }
         ensures off { self.new.is_off ≡ (self.old.is_off || cuts (next_arm (power_state self.old))) }
-        ensures faults { self.new.faults ≡ (if is_some result then counted self.old.faults else self.old.faults) }
-        ensures operations { self.new.operations ≡ counted self.old.operations }
+        ensures faults { self.new.faults ≡ (if is_some result then counted_up self.old.faults else self.old.faults) }
+        ensures operations { self.new.operations ≡ counted_up self.old.operations }
         ensures standing { self.new.standing.items ≡ (if self.old.is_off then self.old.standing.items else standing_after_write self.old.standing.items) }
         ensures fewer { array_vec_len self.new.standing ≤ array_vec_len self.old.standing }
     {
@@ -126,8 +126,8 @@ impl Power {
     pub fn count_read(&mut self, sector: u8, page: u16) -> bool
         ensures fails { result ≡ read_fails sector page (power_state self.old) }
         ensures off { self.new.is_off ≡ self.old.is_off }
-        ensures faults { self.new.faults ≡ (if result then counted self.old.faults else self.old.faults) }
-        ensures operations { self.new.operations ≡ counted self.old.operations }
+        ensures faults { self.new.faults ≡ (if result then counted_up self.old.faults else self.old.faults) }
+        ensures operations { self.new.operations ≡ counted_up self.old.operations }
         ensures standing { self.new.standing.items ≡ (if self.old.is_off then self.old.standing.items
             else standing_after_read sector page self.old.standing.items) }
         ensures fewer { array_vec_len self.new.standing ≤ array_vec_len self.old.standing }

@@ -1,6 +1,6 @@
 //! What a driver keeps of the calls that were made of it.
 ghost use Rattle.std.specs.Prelude.{◌≡◌, None};
-ghost use Rattle.flt_flash.specs.State.{counted};
+ghost use Rattle.flt_flash.specs.State.{counted_up};
 ghost use Rattle.flt_flash.specs.Calls.{failed_after};
 
 use crate::BlockFault;
@@ -25,7 +25,7 @@ impl Tally {
 
     /// Counts a call.
     pub fn count(&mut self)
-        ensures { self.new ≡ record self.old { calls = counted self.old.calls } }
+        ensures { self.new ≡ record self.old { calls = counted_up self.old.calls } }
     {
         self.calls = self.calls.saturating_add(1);
     }

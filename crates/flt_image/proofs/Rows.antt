@@ -11,7 +11,7 @@ use Rattle.flt_nvm.specs.declared.table.Kind.{Kind}
 use Rattle.flt_nvm.specs.declared.table.BlockCfg.{BlockCfg}
 use Rattle.flt_nvm.specs.Table.{serves}
 use Rattle.flt_store_model.specs.Layout.{numbers}
-use Rattle.flt_image.specs.Table.{row, rows, block_table}
+use Rattle.flt_image.specs.Table.{block_row, rows, block_table}
 
 -- No row, and one row more.
 pub no_rows : (before : List BlockCfg) (kind : Kind) (length first : ℕ) → before ≡ before ++ rows kind length first 0
@@ -19,12 +19,12 @@ unfolding rows
 no_rows before kind length first = sym (append-nil before)
 
 pub rows_more : (before made : List BlockCfg) (kind : Kind) (length first count : ℕ) → made ≡ before ++ rows kind length first count
-    → made ++ row kind length (first + count) ∷ [] ≡ before ++ rows kind length first (count + 1)
+    → made ++ block_row kind length (first + count) ∷ [] ≡ before ++ rows kind length first (count + 1)
 unfolding rows
 rows_more before made kind length first count is =
-    ap (λ (all : List BlockCfg). all ++ row kind length (first + count) ∷ []) is
-    ∙ append_assoc before (map (row kind length) (range_with_len first count)) (row kind length (first + count) ∷ [])
-    ∙ ap (λ (all : List BlockCfg). before ++ all) (sym (map-range_with_len_more (row kind length) first count (first + count) refl))
+    ap (λ (all : List BlockCfg). all ++ block_row kind length (first + count) ∷ []) is
+    ∙ append_assoc before (map (block_row kind length) (range_with_len first count)) (block_row kind length (first + count) ∷ [])
+    ∙ ap (λ (all : List BlockCfg). before ++ all) (sym (map-range_with_len_more (block_row kind length) first count (first + count) refl))
 
 -- The table is one that a driver with these numbers serves.
 pub table_serves : serves numbers block_table ≡ true

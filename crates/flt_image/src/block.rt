@@ -2,7 +2,7 @@
 ghost use Rattle.std.specs.Prelude.{◌≡◌, ◌≤◌, IsTrue, length};
 ghost use Rattle.flt_config.specs.Durable.{Fits};
 ghost use Rattle.flt_store_model.specs.Form.{block_bytes, part_length};
-ghost use Rattle.flt_store_model.specs.Layout.{is_used, part_of};
+ghost use Rattle.flt_store_model.specs.Layout.{is_used, part_of_block};
 ghost use Rattle.flt_store_model.specs.Reading.{taken};
 ghost use Rattle.flt_image.specs.Taking.{TakesIn};
 
@@ -20,7 +20,7 @@ pub fn put_block(config: &ValidConfig, state: &Persist, id: u16, out: &mut Block
     requires used { IsTrue (is_used config.now id) }
     requires fits { Fits config.now state.now }
     ensures items { out.new.items ≡ block_bytes state.now id }
-    ensures size { length out.new.items ≡ part_length (part_of id) }
+    ensures size { length out.new.items ≡ part_length (part_of_block id) }
 {
     out.clear();
     match part_of(id) {
@@ -39,7 +39,7 @@ pub fn put_block(config: &ValidConfig, state: &Persist, id: u16, out: &mut Block
 pub fn get_block(config: &ValidConfig, id: u16, bytes: &[u8], into: &mut Persist) -> bool
     requires used { IsTrue (is_used config.now id) }
     requires states { length into.old.events.items ≡ length config.now.events.items }
-    ensures taken { TakesIn (taken config.now (part_of id) bytes.now into.old) result into.old into.new }
+    ensures taken { TakesIn (taken config.now (part_of_block id) bytes.now into.old) result into.old into.new }
     ensures states { length into.new.events.items ≡ length into.old.events.items }
 {
     let part = part_of(id);

@@ -2,7 +2,7 @@
 ghost use Rattle.std.specs.Prelude.{◌≡◌, ◌≤◌, IsTrue, length};
 ghost use Rattle.flt_config.specs.Durable.{Fits};
 ghost use Rattle.flt_store_model.specs.Form.{block_bytes, part_length};
-ghost use Rattle.flt_store_model.specs.Layout.{is_used, part_of, parts};
+ghost use Rattle.flt_store_model.specs.Layout.{is_used, part_of_block, parts};
 
 use crate::block::put_block;
 use crate::layout::is_used;
@@ -65,7 +65,7 @@ impl StateBlocks {
         requires end { id < end_part }
         requires fits { Fits config.now state.now }
         ensures given { IsTrue (is_used config.now id) → bytes_at self.new id ≡ block_bytes state.now id }
-        ensures size { IsTrue (is_used config.now id) → length (bytes_at self.new id) ≡ part_length (part_of id) }
+        ensures size { IsTrue (is_used config.now id) → length (bytes_at self.new id) ≡ part_length (part_of_block id) }
         ensures others { (other : ℕ) → first_part ≤ other → other ≢ id → bytes_at self.new other ≡ bytes_at self.old other }
     {
         if is_used(config, id) {

@@ -1,6 +1,6 @@
 //! Which blocks a configuration has, and which part of a generation each of them holds.
 ghost use Rattle.std.specs.Prelude.{◌≡◌, ◌<◌, ◌≤◌, ◌+◌, ◌++◌, [], ◌∷◌, if◌then◌else◌, length};
-ghost use Rattle.flt_store_model.specs.Layout.{first_part, end_part, part_of, parts, has_part, is_used, used_ids};
+ghost use Rattle.flt_store_model.specs.Layout.{first_part, end_part, part_of_block, parts, has_part, is_used, used_ids};
 
 use arrayvec::ArrayVec;
 use flt_config::ValidConfig;
@@ -19,7 +19,7 @@ const LATER_EVENT: u16 = STATES_BLOCKS * PER_BLOCK;
 pub fn part_of(id: u16) -> Part
     requires least { first_part ≤ id }
     requires end { id < end_part }
-    ensures { result ≡ part_of id }
+    ensures { result ≡ part_of_block id }
 {
     if id == FIRST_PART {
         Part::Summary

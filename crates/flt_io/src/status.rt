@@ -1,6 +1,6 @@
 //! How a program ends.
 ghost use Rattle.std.specs.Prelude.{◌≡◌};
-ghost use Rattle.flt_io.specs.Status.{number_of};
+ghost use Rattle.flt_io.specs.Status.{status_number};
 
 /// How a program ends, with the number of its exit status (this profile).
 #[derive(Clone, Copy, Debug, PartialEq, Eq)]
@@ -44,7 +44,7 @@ pub enum Status {
 impl Status {
     /// The number.
     pub fn number(self) -> u8
-        ensures { result ≡ number_of self }
+        ensures { result ≡ status_number self }
     {
         self as u8
     }

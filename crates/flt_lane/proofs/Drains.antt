@@ -190,7 +190,7 @@ module _ {B : Type 0} {b : Ghosts B} (c : Config) where
   drained_more before mid after written failed count was store middle now so_far takes =
       let job = takes.job in
       let jobs = so_far.jobs ++ job ∷ [] in
-      let fact = chain_fact queue.IsAdmitted queued.reply_after mid (calls_for job) after takes.chain in
+      let fact = chain_fact queue.IsQueueCallFor queued.reply_after mid (calls_for job) after takes.chain in
       let left = fact.left_is in
       let before_left = so_far.left in
       let count_is = so_far.count_is in
@@ -206,7 +206,7 @@ module _ {B : Type 0} {b : Ghosts B} (c : Config) where
         failed_is = (let sum = sum_by_push (λ (d : Drained). one_if (not d.written)) so_far.jobs job in omega (arith, sum, failed_is, none));
         all = (let either = one_of_both was in omega (arith, all, either));
         chain = subst (λ l. MakesJobs before l after) (sym (all_calls_more so_far.jobs job))
-            (chain_more queue.IsAdmitted queued.reply_after before (calls_for_all so_far.jobs) mid (calls_for job) after so_far.chain takes.chain);
+            (chain_more queue.IsQueueCallFor queued.reply_after before (calls_for_all so_far.jobs) mid (calls_for job) after so_far.chain takes.chain);
         drains = drains_further before mid after (2 * count) 2 count 1 failed (one_if (not was)) (2 * (count + 1)) (count + 1) (failed + one_if (not was)) store middle now (omega arith) (omega arith) (omega arith)
             so_far.drains takes.drains;
         left = omega (arith, left, before_left);

@@ -99,7 +99,7 @@ module _ {B : Type 0} {b : Ghosts B} (c : Config) (main after : Seat) (jobs jobs
       own_are = one.made.keeps.told;
       lanes_are = sym (append-nil lanes);
       dem = part_one MayBeAsked reply_after StepMakes calls_by main after step one.made.answer is one.made.dem;
-      queue = part_one queue.IsAdmitted queued.reply_after StepQueues queued_by jobs jobs_after step one.made.answer is_queue one.made.queue;
+      queue = part_one queue.IsQueueCallFor queued.reply_after StepQueues queued_by jobs jobs_after step one.made.answer is_queue one.made.queue;
     };
     carries = λ earlier. subst (λ l. Carries c main after jobs jobs_after earlier l store now) (sym (newest_of_one step one.made.answer [] earlier)) (one.carries earlier);
     goes_on = one.goes_on;
@@ -118,7 +118,7 @@ module _ {B : Type 0} {b : Ghosts B} (c : Config) (main after : Seat) (jobs jobs
           own_are = sym (append-nil own);
           lanes_are = ran.run.told_are;
           dem = part_block MayBeAsked reply_after StepMakes calls_by main after lanes ran.run.others ran.run.dem;
-          queue = part_block queue.IsAdmitted queued.reply_after StepQueues queued_by jobs jobs_after lanes ran.run.others ran.run.queue;
+          queue = part_block queue.IsQueueCallFor queued.reply_after StepQueues queued_by jobs jobs_after lanes ran.run.others ran.run.queue;
         };
         carries = λ earlier. subst (λ l. Carries c main after jobs jobs_after earlier (reverse l ++ earlier) store now) (sym (deeds_of_block lanes ran.run.others size)) (ran.carries earlier);
         goes_on = ran.leaves.goes_on;
@@ -207,7 +207,7 @@ module _ {B : Type 0} {b : Ghosts B} (c : Config) (seats : Seats) (store : Store
       record {
         ran = record {
           dem = runs_none MayBeAsked reply_after StepMakes calls_by seats.dem _ _ main no_own no_lanes;
-          queue = runs_none queue.IsAdmitted queued.reply_after StepQueues queued_by seats.queue _ _ jobs no_own no_lanes;
+          queue = runs_none queue.IsQueueCallFor queued.reply_after StepQueues queued_by seats.queue _ _ jobs no_own no_lanes;
         };
         told_len = none_told.1;
         carries = carries_beside c seats.dem seats.dem seats.queue seats.queue [] store (λ known is. is) (λ known is. is);
@@ -238,7 +238,7 @@ module _ {B : Type 0} {b : Ghosts B} (c : Config) (seats : Seats) (store : Store
       record {
         ran = record {
           dem = runs_more MayBeAsked reply_after StepMakes calls_by seats.dem now.dem after.dem parts own lanes part gains.mine gains.others _ _ ran.dem more.dem more.own_are more.lanes_are;
-          queue = runs_more queue.IsAdmitted queued.reply_after StepQueues queued_by seats.queue now.queue after.queue parts own lanes part gains.mine gains.others _ _ ran.queue more.queue more.own_are more.lanes_are;
+          queue = runs_more queue.IsQueueCallFor queued.reply_after StepQueues queued_by seats.queue now.queue after.queue parts own lanes part gains.mine gains.others _ _ ran.queue more.queue more.own_are more.lanes_are;
         };
         told_len = omega (arith, told_len, so_far.told_len, wide);
         carries = subst (λ (l : List Deed). Carries c seats.dem after.dem seats.queue after.queue [] l store next) (sym deeds)

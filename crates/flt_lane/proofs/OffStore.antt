@@ -87,4 +87,4 @@ module _ {B : Type 0} {b : Ghosts B} (c : Config) where
       subst (λ is. Carries c before after jobs jobs_after earlier (deed_if is step told earlier) store store) (sym none)
       (carries_beside c before after jobs jobs_after earlier store
       (λ known is. known_along MayBeAsked reply_after before made.calls after known made.chain is)
-      (λ known is. known_along queue.IsAdmitted queued.reply_after jobs queues.calls jobs_after known queues.chain is))
+      (λ known is. known_along queue.IsQueueCallFor queued.reply_after jobs queues.calls jobs_after known queues.chain is))

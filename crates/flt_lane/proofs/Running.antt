@@ -19,7 +19,7 @@ use Rattle.flt_life_model.proofs.Sizes.{sizes-cons}
 use Rattle.flt_lane.specs.declared.lane.LaneWork.{LaneWork}
 use Rattle.flt_lane.specs.declared.locks.Locks.{Locks}
 use Rattle.flt_lane.specs.Runs.{QueueSeat, Makes, Queues, calls_by, queued_by}
-use Rattle.flt_lane.specs.Stepped.{HasRoomFor, MakesStep}
+use Rattle.flt_lane.specs.Stepped.{HasRoomForAnswer, MakesStep}
 use Rattle.flt_lane.specs.Work.{AreSeatsOf, IsPrepared, HasRun}
 use Rattle.flt_fork.proofs.Chains.{chain_fact}
 use Rattle.flt_fork.proofs.PartWays.{PartBy, part_first, part_more, part_runs, part_start, part_number}
@@ -28,12 +28,12 @@ abbrev pub DemPart : Seat → Seat → List Step → List Told → Type 0
 DemPart = PartBy MayBeAsked reply_after StepMakes calls_by
 
 abbrev pub QueuePart : QueueSeat → QueueSeat → List Step → List Told → Type 0
-QueuePart = PartBy queue.IsAdmitted queued.reply_after StepQueues queued_by
+QueuePart = PartBy queue.IsQueueCallFor queued.reply_after StepQueues queued_by
 
 -- ---- the room for an answer
 
 -- Of the steps that are left, the first one has room.
-pub room_for : (replies : LaneReplies) (step : Step) (later : List Step) → HasRoomForSteps replies (step ∷ later) → HasRoomFor replies (action_of step)
+pub room_for : (replies : LaneReplies) (step : Step) (later : List Step) → HasRoomForSteps replies (step ∷ later) → HasRoomForAnswer replies (action_of step)
 room_for replies step later room =
     let sum = sizes-cons step later in
     let answers = room.answers in
@@ -57,7 +57,7 @@ pub begins : {F : _} {g : _} (locks : Locks F g) (lane : LaneWork) → IsPrepare
 begins locks lane ready = record {
   told = [];
   dem = part_first MayBeAsked reply_after StepMakes calls_by lane.seats.dem;
-  queue = part_first queue.IsAdmitted queued.reply_after StepQueues queued_by lane.seats.queue;
+  queue = part_first queue.IsQueueCallFor queued.reply_after StepQueues queued_by lane.seats.queue;
   answers = sym (append-nil _);
   number = refl;
   seat_number = ready.number;
@@ -83,7 +83,7 @@ pub seats_stay : {F : _} {g : _} (locks : Locks F g) (now after : LaneWork) (ste
 seats_stay locks now after step told seats makes queues dem job_seat = record {
   dem = dem;
   queue = job_seat;
-  blocks = (chain_fact queue.IsAdmitted queued.reply_after now.seats.queue queues.calls after.seats.queue queues.chain).start_is ∙ seats.blocks
+  blocks = (chain_fact queue.IsQueueCallFor queued.reply_after now.seats.queue queues.calls after.seats.queue queues.chain).start_is ∙ seats.blocks
       ∙ ap (λ s. s.config.blocks) (sym (chain_fact MayBeAsked reply_after now.seats.dem makes.calls after.seats.dem makes.chain).start_is);
 }
 
@@ -103,7 +103,7 @@ module _ {F : _} {g : _} (locks : Locks F g) (before now : LaneWork) (index : �
   possible_next = subst (λ s. IsPossibleInLane s.config step) (sym start_now) (subst (IsPossibleInLane before.seats.dem.start.config) (sym is) (ready.steps index step within))
 
   -- There is room for its answer.
-  pub room_next : HasRoomFor now.replies (action_of step)
+  pub room_next : HasRoomForAnswer now.replies (action_of step)
   room_next = room_for now.replies step (drop (index + 1) before.steps.now) (subst (HasRoomForSteps now.replies) (next_step before.steps.now index step within is) on.room)
 
   pub goes_on : (after : LaneWork) → (made : MakesStep now.seats.dem after.seats.dem now.seats.queue after.seats.queue step now.replies after.replies) → after.number ≡ now.number → after.steps.now ≡ now.steps.now
@@ -113,7 +113,7 @@ module _ {F : _} {g : _} (locks : Locks F g) (before now : LaneWork) (index : �
       let told = made.answer in
       let taken : take (index + 1) all ≡ take index all ++ step ∷ [] = take_more all index step within ∙ ap (λ s. take index all ++ s ∷ []) (sym is) in
       let dem = part_more MayBeAsked reply_after StepMakes calls_by before.seats.dem now.seats.dem after.seats.dem (take index all) on.told step told on.dem made.dem in
-      let queue = part_more queue.IsAdmitted queued.reply_after StepQueues queued_by before.seats.queue now.seats.queue after.seats.queue (take index all) on.told step told on.queue made.queue in
+      let queue = part_more queue.IsQueueCallFor queued.reply_after StepQueues queued_by before.seats.queue now.seats.queue after.seats.queue (take index all) on.told step told on.queue made.queue in
       record {
         told = on.told ++ told ∷ [];
         dem = subst (λ l. DemPart before.seats.dem after.seats.dem l (on.told ++ told ∷ [])) (sym taken) dem;
@@ -139,7 +139,7 @@ has_run locks before now index on all =
     record {
       told = on.told;
       dem = part_runs MayBeAsked reply_after StepMakes calls_by before.seats.dem now.seats.dem before.steps.now on.told (subst (λ l. DemPart before.seats.dem now.seats.dem l on.told) whole on.dem);
-      queue = part_runs queue.IsAdmitted queued.reply_after StepQueues queued_by before.seats.queue now.seats.queue before.steps.now on.told (subst (λ l. QueuePart before.seats.queue now.seats.queue l on.told) whole on.queue);
+      queue = part_runs queue.IsQueueCallFor queued.reply_after StepQueues queued_by before.seats.queue now.seats.queue before.steps.now on.told (subst (λ l. QueuePart before.seats.queue now.seats.queue l on.told) whole on.queue);
       answers = on.answers;
       number = (on.number, on.seat_number);
       steps = on.steps;

@@ -99,7 +99,7 @@ pub one_queued : (before : QueueSeat) (step : Step) (op : QueueOp) (told : Answe
 one_queued before step op told after makes call = record {
   calls = record { op = op; told = told } ∷ [];
   made = subst (λ a. ActionQueues a (answers.Queue told) (record { op = op; told = told } ∷ [])) (sym makes) (told, refl, refl);
-  chain = chain_of_one queue.IsAdmitted queued.reply_after before record { op = op; told = told } after call;
+  chain = chain_of_one queue.IsQueueCallFor queued.reply_after before record { op = op; told = told } after call;
   left = let left = call.place.left in let one = ap queue_count makes in omega (arith, left, one);
 }
 
@@ -131,7 +131,7 @@ module _ {B : Type 0} {b : Ghosts B} (c : Config) where
       → Queues before steps.Drain (answers.Drained written failed) after
   short_drained before mid after written failed count store middle now few drained none =
       let last = take_at none.place replies.NoJob in
-      let fact = chain_fact queue.IsAdmitted queued.reply_after mid (last ∷ []) after none.chain in
+      let fact = chain_fact queue.IsQueueCallFor queued.reply_after mid (last ∷ []) after none.chain in
       let count_is = drained.count_is in
       record {
         calls = calls_for_all drained.jobs ++ last ∷ [];
@@ -143,6 +143,6 @@ module _ {B : Type 0} {b : Ghosts B} (c : Config) where
           written_is = drained.written_is;
           failed_is = drained.failed_is;
         };
-        chain = chain_more queue.IsAdmitted queued.reply_after before (calls_for_all drained.jobs) mid (last ∷ []) after drained.chain none.chain;
+        chain = chain_more queue.IsQueueCallFor queued.reply_after before (calls_for_all drained.jobs) mid (last ∷ []) after drained.chain none.chain;
         left = let left = drained.left in let one = fact.left_is in omega (arith, left, one, few);
       }

@@ -133,7 +133,7 @@ module _ {B : Type 0} {b : Ghosts B} (c : Config) (main off after : Seat) (jobs 
       let dem = one.ran.dem in
       let jobs_ran = one.ran.queue in
       let olds : last.seats.dem.olds ≡ main.olds = (chain_fact MayBeAsked reply_after before.seats.dem dem.calls last.seats.dem dem.chain).olds_are ∙ split.dem.olds in
-      let job_olds : last.seats.queue.olds ≡ jobs.olds = (chain_fact queue.IsAdmitted queued.reply_after before.seats.queue jobs_ran.calls last.seats.queue jobs_ran.chain).olds_are ∙ split.queue.olds in
+      let job_olds : last.seats.queue.olds ≡ jobs.olds = (chain_fact queue.IsQueueCallFor queued.reply_after before.seats.queue jobs_ran.calls last.seats.queue jobs_ran.chain).olds_are ∙ split.queue.olds in
       let told : told_in last.replies ≡ one.ran.told = one.ran.answers ∙ ap (λ l. l ++ one.ran.told) split.no_answers in
       let tolds = map (λ (w : LaneWork). told_in w.replies) ran in
       let deeds : block_deeds lanes tolds ≡ lane_deeds before.steps.now one.ran.told =

@@ -31,7 +31,7 @@ no_job (Some job) reply is other = absurd (other job is)
 chain_of_take : (before after : QueueSeat) (told : Answer QueueReply) (reply : QueueReply) → told.reply ≡ reply → queued.IsCall before after ops.Take told → MakesJobs before (take_at told.place reply ∷ []) after
 chain_of_take before after told reply is call =
     subst (λ r. MakesJobs before (take_at told.place r ∷ []) after) is
-    (chain_of_one queue.IsAdmitted queued.reply_after before record { op = ops.Take; told = told } after call)
+    (chain_of_one queue.IsQueueCallFor queued.reply_after before record { op = ops.Take; told = told } after call)
 
 -- ---- no job waits
 
@@ -58,8 +58,8 @@ module _ {B : Type 0} {b : Ghosts B} (c : Config) (before mid after : QueueSeat)
       record {
         job = record { place = taken.place; job = job; written = written; noted = noted };
         written_is = refl;
-        chain = chain_more queue.IsAdmitted queued.reply_after before (take_at taken.place (replies.Job job) ∷ []) mid (record { op = ops.Done job.block written; told = noted } ∷ []) after
-            (chain_of_take before mid taken (replies.Job job) is_job take) (chain_of_one queue.IsAdmitted queued.reply_after mid record { op = ops.Done job.block written; told = noted } after done);
+        chain = chain_more queue.IsQueueCallFor queued.reply_after before (take_at taken.place (replies.Job job) ∷ []) mid (record { op = ops.Done job.block written; told = noted } ∷ []) after
+            (chain_of_take before mid taken (replies.Job job) is_job take) (chain_of_one queue.IsQueueCallFor queued.reply_after mid record { op = ops.Done job.block written; told = noted } after done);
         drains = record {
           running = put.running;
           holds = λ first earlier jobs deeds holds.

@@ -34,7 +34,7 @@ ran_lanes locks main off after lanes works ran told more is is_queue seated same
       (λ k d within. let one = each k d within in
       subst (λ l. RunsSteps (get_or works k d).seats.dem (get_or works k d).steps.now l (get_or ran k d).seats.dem) (told_is (get_or works k d) (get_or ran k d) one (seated.no_answers k d within)) one.dem) joined.dem);
   queue = subst (λ l. HasRunBlock queued.reply_after StepQueues main.queue after.queue l (map (λ (w : LaneWork). told_in w.replies) ran)) seated.steps_are
-      (works_ran queue.IsAdmitted queued.reply_after StepQueues queued_by queued_of (λ (w : LaneWork). w.seats.queue) (λ (w : LaneWork). w.steps.now) (λ (w : LaneWork). told_in w.replies) main.queue off.queue after.queue _ works ran is_queue
+      (works_ran queue.IsQueueCallFor queued.reply_after StepQueues queued_by queued_of (λ (w : LaneWork). w.seats.queue) (λ (w : LaneWork). w.steps.now) (λ (w : LaneWork). told_in w.replies) main.queue off.queue after.queue _ works ran is_queue
       seated.queue seated.queue_off same
       (λ k d within. let one = each k d within in
       subst (λ l. RunsQueue (get_or works k d).seats.queue (get_or works k d).steps.now l (get_or ran k d).seats.queue) (told_is (get_or works k d) (get_or ran k d) one (seated.no_answers k d within)) one.queue) joined.queue);

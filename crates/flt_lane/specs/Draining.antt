@@ -22,7 +22,7 @@ use Rattle.flt_lane.specs.Stored.{LeavesStore}
 
 -- Calls of the queue, between what their seat knew before and after.
 abbrev pub MakesJobs : QueueSeat → List QueueCall → QueueSeat → Type 0
-MakesJobs before calls after = Chain queue.IsAdmitted queued.reply_after before calls after
+MakesJobs before calls after = Chain queue.IsQueueCallFor queued.reply_after before calls after
 
 module _ {B : Type 0} {b : Ghosts B} where
   -- What so many calls of a drain, with so many jobs, of which some failed, carry on of the store.

@@ -30,7 +30,7 @@ RunsSteps = RunsBy MayBeAsked reply_after StepMakes calls_by
 
 -- The same on the lock of the queue.
 abbrev pub Queues : QueueSeat → Step → Told → QueueSeat → Type 0
-Queues = MakesBy queue.IsAdmitted queued.reply_after StepQueues queued_by
+Queues = MakesBy queue.IsQueueCallFor queued.reply_after StepQueues queued_by
 
 abbrev pub RunsQueue : QueueSeat → List Step → List Told → QueueSeat → Type 0
-RunsQueue = RunsBy queue.IsAdmitted queued.reply_after StepQueues queued_by
+RunsQueue = RunsBy queue.IsQueueCallFor queued.reply_after StepQueues queued_by

@@ -31,7 +31,7 @@ pub record HaveCallsOf (seats : Seats) (action : Action) : Type 0 where
   pub queue : queue_count action ≤ seats.queue.left
 
 -- There is room for the answer to what a step does.
-pub record HasRoomFor (replies : LaneReplies) (action : Action) : Type 0 where
+pub record HasRoomForAnswer (replies : LaneReplies) (action : Action) : Type 0 where
   pub answers : vec_len replies.answers + 1 ≤ vec_capacity replies.answers
   pub responses : vec_len replies.responses + response_size action ≤ byte_room replies.responses
 

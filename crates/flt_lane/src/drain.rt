@@ -13,7 +13,7 @@ ghost use Rattle.flt_shared.specs.Call.{Seat};
 ghost use Rattle.flt_turn.specs.Seats as turn;
 ghost use Rattle.flt_life_model.specs.Draining.{WritesJob};
 ghost use Rattle.flt_lane.specs.Draining.{LooksForJob};
-ghost use Rattle.flt_lane.specs.Stepped.{HasRoomFor, TakesStep};
+ghost use Rattle.flt_lane.specs.Stepped.{HasRoomForAnswer, TakesStep};
 ghost use Rattle.flt_lane.specs.Work.{CanDrain};
 
 use flt_config::ValidConfig;
@@ -84,7 +84,7 @@ pub(crate) fn drain<R: Wait, B: Blocks + Drop>(
     requires ready { CanDrain queue.now config.now seat.old }
     requires alive { IsAlive config.now store.old }
     requires calls { 64 ≤ seat.old.left }
-    requires room { HasRoomFor replies.old action.Drain }
+    requires room { HasRoomForAnswer replies.old action.Drain }
     ensures takes { (dem : Seat) → TakesStep config.now dem dem seat.old seat.new steps.Drain replies.old replies.new store.old store.new }
     ensures lock { turn.IsSeatOf queue.now.turn seat.new }
 {

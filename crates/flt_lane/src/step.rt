@@ -11,7 +11,7 @@ ghost use Rattle.flt_shared.specs.Lock.{IsSeatOf};
 ghost use Rattle.flt_store.specs.Store.{IsAlive, driver_of};
 ghost use Rattle.flt_turn.specs.Seats as turn;
 ghost use Rattle.flt_lane.specs.Runs.{QueueSeat as Jobs};
-ghost use Rattle.flt_lane.specs.Stepped.{HasRoomFor, HaveCallsOf, IsLockCall, MakesStep, TakesStep};
+ghost use Rattle.flt_lane.specs.Stepped.{HasRoomForAnswer, HaveCallsOf, IsLockCall, MakesStep, TakesStep};
 ghost use Rattle.flt_lane.specs.Work.{AreOfLocks, AreReady, CanSave};
 
 use crate::drain::drain;
@@ -42,7 +42,7 @@ pub(crate) fn make_call<R: Wait>(
     requires call { IsLockCall call }
     requires possible { IsPossible seats.old.dem.start.config call }
     requires calls { HaveCallsOf seats.old call }
-    requires room { HasRoomFor replies.old call }
+    requires room { HasRoomForAnswer replies.old call }
     ensures made { (step : StepView) → action_of step ≡ call
         → MakesStep seats.old.dem seats.new.dem seats.old.queue seats.new.queue step replies.old replies.new }
     ensures lock { IsSeatOf locks.now.dem seats.new.dem }
@@ -81,7 +81,7 @@ fn save<R: Wait, B: Blocks + Drop>(
     requires ready { CanSave dem.now config.now seat.old }
     requires alive { IsAlive config.now store.old }
     requires calls { 2 ≤ seat.old.left }
-    requires room { HasRoomFor replies.old action.Save }
+    requires room { HasRoomForAnswer replies.old action.Save }
     ensures takes { (jobs : Jobs) → TakesStep config.now seat.old seat.new jobs jobs steps.Save replies.old replies.new store.old store.new }
     ensures lock { IsSeatOf dem.now seat.new }
 {
@@ -104,7 +104,7 @@ fn save<R: Wait, B: Blocks + Drop>(
 fn get<B: Blocks + Drop>(store: &mut Store<B>, block: u8, replies: &mut LaneReplies)
     requires block { block < 40 }
     requires alive { (c : Config) × (block < c.blocks) × IsAlive c store.old }
-    requires room { HasRoomFor replies.old (action.Get block) }
+    requires room { HasRoomForAnswer replies.old (action.Get block) }
     ensures takes { (c : Config) (seat : DemView) (jobs : Jobs)
         → TakesStep c seat seat jobs jobs (steps.Get block) replies.old replies.new store.old store.new }
 {
@@ -120,7 +120,7 @@ fn get<B: Blocks + Drop>(store: &mut Store<B>, block: u8, replies: &mut LaneRepl
 fn make_arm<B: Blocks + Drop>(store: &mut Store<B>, arm: Arm, replies: &mut LaneReplies)
     requires arm { CanArm arm }
     requires arms { (driver_of store.old).device.bench.armed < 64 }
-    requires room { HasRoomFor replies.old (action.Arm arm) }
+    requires room { HasRoomForAnswer replies.old (action.Arm arm) }
     ensures takes { (c : Config) (seat : DemView) (jobs : Jobs)
         → TakesStep c seat seat jobs jobs (steps.Arming arm) replies.old replies.new store.old store.new }
 {
@@ -143,7 +143,7 @@ pub(crate) fn do_step<R: Wait, G: Gate, B: Blocks + Drop>(
     requires step { IsPossible common.now.config.now (action_of step.now) }
     requires arms { (driver_of store.old).device.bench.armed + arm_count (action_of step.now) ≤ 64 }
     requires calls { HaveCallsOf seats.old (action_of step.now) }
-    requires room { HasRoomFor replies.old (action_of step.now) }
+    requires room { HasRoomForAnswer replies.old (action_of step.now) }
     ensures takes { TakesStep common.now.config.now seats.old.dem seats.new.dem seats.old.queue seats.new.queue step.now replies.old replies.new store.old store.new }
     ensures lock { IsSeatOf common.now.locks.now.dem seats.new.dem }
     ensures queue { turn.IsSeatOf common.now.locks.now.queue.turn seats.new.queue }

@@ -9,7 +9,7 @@ use Rattle.flt_store.specs.Store.{Gets}
 use Rattle.flt_queue.specs.declared.job.Job.{Job}
 use Rattle.flt_queue.specs.declared.job.QueueOp.{QueueOp}
 use Rattle.flt_queue.specs.declared.job.QueueOp.TheVariants as ops
-use Rattle.flt_queue.specs.Queue.{History, is_of}
+use Rattle.flt_queue.specs.Queue.{History, is_job_of}
 use Rattle.flt_life_model.specs.Actions.{IsQueueCall, action_of}
 use Rattle.flt_life_model.specs.Answers.{Told}
 use Rattle.flt_life_model.specs.Applications.{AreGot, AreHeld, Choose, GetsBy, HoldApplications, IsBytesOf, MayHold, answers_of, done_count, is_done, job_behind, jobs_told, last_taken, up_to_done}
@@ -157,7 +157,7 @@ pub record IsInHand (job : Job) (past : History) : Type 0 where
 
 pub hand_taken : (job : Job) (past : History) → job_behind past ≡ Some job → IsInHand job (ops.Take ∷ past)
 hand_taken job past is =
-    let own : is_of job.block (job_behind past) ≡ true = ap (is_of job.block) is ∙ eq-eqb job.block job.block refl in
+    let own : is_job_of job.block (job_behind past) ≡ true = ap (is_job_of job.block) is ∙ eq-eqb job.block job.block refl in
     record {
       last = rw own is;
       may = λ first. inl (own, subst (λ o. IsBytesOf o (holding job.bytes.items)) (sym is) refl);

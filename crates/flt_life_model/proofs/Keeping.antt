@@ -15,7 +15,7 @@ use Rattle.flt_store.specs.Store.{numbered}
 use Rattle.flt_life_model.specs.Answers.{Told}
 use Rattle.flt_life_model.specs.declared.answer.StepAnswer.TheVariants as answers
 use Rattle.flt_life_model.specs.Journal.{Journal, entry, calls_of, snapshot_of, AcknowledgesBy, TakesBy}
-use Rattle.flt_life_model.specs.Saving.{AreRising, IsLeft, IsUnacknowledged, failures, last_number}
+use Rattle.flt_life_model.specs.Saving.{AreRising, IsLeft, IsUnacknowledged, failures, last_saved_number}
 use Rattle.flt_life_model.specs.Actions.{IsStepCall}
 use Rattle.flt_life_model.specs.Chain.{start_from}
 use Rattle.flt_life_model.specs.SoFar.{IsKeptSince}
@@ -120,7 +120,7 @@ module _ (c : Config) (first : Generation) (journal : Journal) (told : List Told
     rising = kept.rising;
   }
 
-  kept_beside : (answer : Told) → failures (answer ∷ told) ≡ failures told → last_number first.number (answer ∷ told) ≡ last_number first.number told → AreRising first.number (answer ∷ told)
+  kept_beside : (answer : Told) → failures (answer ∷ told) ≡ failures told → last_saved_number first.number (answer ∷ told) ≡ last_saved_number first.number told → AreRising first.number (answer ∷ told)
       → IsKeptSince c first journal (answer ∷ told) h s
   kept_beside answer same number rising = record {
     last = kept.last;

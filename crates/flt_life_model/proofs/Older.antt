@@ -22,7 +22,7 @@ use Rattle.flt_life_model.specs.Chain.{LifeView, told_of, start_from, Finds, Kee
 use Rattle.flt_life_model.specs.Journal.{Journal, Acknowledges, AcknowledgesBy}
 use Rattle.flt_life_model.specs.Moment.{Moment, Medium, moment_at}
 use Rattle.flt_life_model.specs.Saving.{IsLeft}
-use Rattle.flt_life_model.specs.Laws.{IsSoundIn, first_boot, number_by, number_in, acknowledged_in, generation_by, generation_in, generation_of_life, last_acknowledged, IsLastOrLater, IsNoOlder, BeginsNoOlder, EachBeginsNoOlder, EachFindsNoOlder}
+use Rattle.flt_life_model.specs.Laws.{IsSoundIn, first_boot, number_by, number_acknowledged, acknowledged_in, generation_by, generation_in, generation_of_life, last_acknowledged, IsLastOrLater, IsNoOlder, BeginsNoOlder, EachBeginsNoOlder, EachFindsNoOlder}
 
 -- ---- a journal
 
@@ -37,18 +37,18 @@ number_by_less (ops.Show event) few many less = less
 number_by_less ops.Snapshot few many less = less
 number_by_less (ops.Saved number) few many less = omega arith
 
-number_in_less : (journal : Journal) (few many : ℕ) → few ≤ many → number_in journal few ≤ number_in journal many
+number_in_less : (journal : Journal) (few many : ℕ) → few ≤ many → number_acknowledged journal few ≤ number_acknowledged journal many
 number_in_less [] few many less = less
-number_in_less (e ∷ earlier) few many less = number_by_less e.op (number_in earlier few) (number_in earlier many) (number_in_less earlier few many less)
+number_in_less (e ∷ earlier) few many less = number_by_less e.op (number_acknowledged earlier few) (number_acknowledged earlier many) (number_in_less earlier few many less)
 
 module _ (start : Start) (first g : Generation) where
   -- What a journal acknowledges last has the number that it names last.
-  acknowledged_number : (journal : Journal) → Acknowledges start first journal g → g.number ≡ number_in journal first.number
+  acknowledged_number : (journal : Journal) → Acknowledges start first journal g → g.number ≡ number_acknowledged journal first.number
   acknowledged_number [] is = ap (λ (generation : Generation). generation.number) is
   acknowledged_number (e ∷ earlier) is = by_op e.op (acknowledged_number earlier) is
     where
-      by_op : (op : Op) → (Acknowledges start first earlier g → g.number ≡ number_in earlier first.number)
-          → AcknowledgesBy start e.lane earlier op g (Acknowledges start first earlier g) → g.number ≡ number_by op (number_in earlier first.number)
+      by_op : (op : Op) → (Acknowledges start first earlier g → g.number ≡ number_acknowledged earlier first.number)
+          → AcknowledgesBy start e.lane earlier op g (Acknowledges start first earlier g) → g.number ≡ number_by op (number_acknowledged earlier first.number)
       by_op (ops.Signal index value) before by = before by
       by_op (ops.Enable condition fulfilled) before by = before by
       by_op (ops.Report event report) before by = before by
@@ -186,7 +186,7 @@ module _ (c : Config) (given : IsGiven c) (held_stands : HeldStands) (spare_stan
   refused_no_older next faults.SequenceSpent refused = kept_no_older next refused.1
 
   -- A life leaves nothing older than what was acknowledged in it and before.
-  pub leaves_no_older : (next : Moment) (life : LifeView) (b : Boot) → IsLifeBegunBy c boot next ended life b → IsNoOlder c (number_in life.journal number) (generation_of_life c b life.journal last) next
+  pub leaves_no_older : (next : Moment) (life : LifeView) (b : Boot) → IsLifeBegunBy c boot next ended life b → IsNoOlder c (number_acknowledged life.journal number) (generation_of_life c b life.journal last) next
   leaves_no_older next life (Started begun state) begun_by =
       let leaves = begun_by.2 in
       let least = number_in_less life.journal number begun (found_no_older _ begun_by.0) in
@@ -204,8 +204,8 @@ module _ (c : Config) (given : IsGiven c) (held_stands : HeldStands) (spare_stan
           later_of _ leaves.last leaves.spare named (left_last_or_later start life.journal (told_of life) leaves.last leaves.spare leaves.spare_is),
         );
       }
-  leaves_no_older next life Dark begun_by = subst (λ journal. IsNoOlder c (number_in journal number) last next) (sym begun_by.1) (kept_no_older next begun_by.2)
-  leaves_no_older next life (Refused fault) begun_by = subst (λ journal. IsNoOlder c (number_in journal number) last next) (sym begun_by.1) (refused_no_older next fault begun_by.0)
+  leaves_no_older next life Dark begun_by = subst (λ journal. IsNoOlder c (number_acknowledged journal number) last next) (sym begun_by.1) (kept_no_older next begun_by.2)
+  leaves_no_older next life (Refused fault) begun_by = subst (λ journal. IsNoOlder c (number_acknowledged journal number) last next) (sym begun_by.1) (refused_no_older next fault begun_by.0)
 
 -- ---- all lives
 

@@ -4,14 +4,14 @@ use Rattle.flt_config.specs.declared.persist.Persist.{Persist}
 use Rattle.flt_store_model.specs.Holding.{Generation}
 use Rattle.flt_model.specs.Start.{Start}
 use Rattle.flt_queue.specs.Queue.{waiting, pending, taken}
-use Rattle.flt_life_model.specs.Examples.{journal, told, saved, taken as taken_last, LifeLeaves, PlacesRise, BlockHolds}
+use Rattle.flt_life_model.specs.Examples.{journal, answers_told, saved_generation, snapshot_taken as taken_last, LifeLeaves, PlacesRise, BlockHolds}
 use Rattle.flt_fork.specs.Mixing.{Rise}
 use Rattle.flt_life_model.specs.Saving.{IsUnacknowledged}
 
 same_generation : (g : Generation) (number : ℕ) (state : Persist) → g.number ≡ number → g.state ≡ state → g ≡ record { number = number; state = state }
 same_generation g number state is and = λ i. record { number = is i; state = and i }
 
-unacknowledged : (start : Start) (g : Generation) → IsUnacknowledged start journal told (saved start) g → g ≡ record { number = 9; state = taken_last start }
+unacknowledged : (start : Start) (g : Generation) → IsUnacknowledged start journal answers_told (saved_generation start) g → g ≡ record { number = 9; state = taken_last start }
 unacknowledged start g left =
     let past = left.past in
     let most = left.most in

@@ -47,7 +47,7 @@ IsQueueCall (queue.Ask block) = Unit {0}
 -- A step whose numbers are in their ranges.
 abbrev pub IsPossible : Config → Action → Type 0
 IsPossible c (Call op) = IsStepCall op × IsAdmitted c op
-IsPossible c (Queue op) = IsQueueCall op × jobs.IsAdmitted c.blocks op
+IsPossible c (Queue op) = IsQueueCall op × jobs.IsQueueCallFor c.blocks op
 IsPossible c Save = Unit {0}
 IsPossible c Drain = Unit {0}
 IsPossible c (Get block) = block < c.blocks

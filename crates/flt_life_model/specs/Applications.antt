@@ -5,7 +5,7 @@ use Rattle.flt_store_model.specs.Layout.{applications, application_number}
 use Rattle.flt_queue.specs.declared.job.Job.{Job}
 use Rattle.flt_queue.specs.declared.job.QueueOp.{QueueOp}
 use Rattle.flt_queue.specs.declared.job.QueueOp.TheVariants as ops
-use Rattle.flt_queue.specs.Queue.{History, is_of, next_of, waiting}
+use Rattle.flt_queue.specs.Queue.{History, is_job_of, next_of, waiting}
 use Rattle.flt_life_model.specs.Actions.{action_of}
 use Rattle.flt_life_model.specs.Answers.{Told}
 use Rattle.flt_life_model.specs.Ordered.{Deed}
@@ -20,7 +20,7 @@ job_behind past = next_of (waiting past)
 -- The job of a block that was taken last.
 abbrev pub last_taken : ℕ → History → Option Job
 last_taken block [] = None
-last_taken block (ops.Take ∷ past) = if is_of block (job_behind past) then job_behind past else last_taken block past
+last_taken block (ops.Take ∷ past) = if is_job_of block (job_behind past) then job_behind past else last_taken block past
 last_taken block (_ ∷ past) = last_taken block past
 
 -- These are the bytes of the job.
@@ -37,7 +37,7 @@ Choose false first second = second
 -- the last that was finished as written; if no job was, also what it held at first.
 abbrev pub MayHold : ℕ → Content → History → Content → Type 0
 MayHold block first [] held = held ≡ first
-MayHold block first (ops.Take ∷ past) held = (IsTrue (is_of block (job_behind past)) × IsBytesOf (job_behind past) held) ⊎ MayHold block first past held
+MayHold block first (ops.Take ∷ past) held = (IsTrue (is_job_of block (job_behind past)) × IsBytesOf (job_behind past) held) ⊎ MayHold block first past held
 MayHold block first (ops.Done done written ∷ past) held = Choose (written && (done == block)) (IsBytesOf (last_taken block past) held)
     (MayHold block first past held)
 MayHold block first (_ ∷ past) held = MayHold block first past held

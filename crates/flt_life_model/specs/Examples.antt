@@ -35,31 +35,31 @@ journal =
     entry 1 (ops.Show 0) ∷ entry 2 ops.Snapshot ∷ entry 2 (ops.Saved 8) ∷ entry 1 (ops.Cycle 1) ∷ entry 2 ops.Snapshot ∷ entry 0 (ops.Cycle 0) ∷ []
 
 -- The answers to the two saves, newest first.
-abbrev pub told : List Told
-told = answers.SaveFailed Flash ∷ answers.Saved 8 ∷ []
+abbrev pub answers_told : List Told
+answers_told = answers.SaveFailed Flash ∷ answers.Saved 8 ∷ []
 
 -- The generation that was acknowledged: its state is that of the snapshot, before lane 1 ended its cycle.
-abbrev pub saved : Start → Generation
-saved start = record { number = 8; state = saved_after start (ops.Cycle 0 ∷ []) }
+abbrev pub saved_generation : Start → Generation
+saved_generation start = record { number = 8; state = saved_after start (ops.Cycle 0 ∷ []) }
 
 -- The state that the second snapshot took.
-abbrev pub taken : Start → Persist
-taken start = saved_after start (ops.Saved 8 ∷ ops.Cycle 1 ∷ ops.Snapshot ∷ ops.Cycle 0 ∷ [])
+abbrev pub snapshot_taken : Start → Persist
+snapshot_taken start = saved_after start (ops.Saved 8 ∷ ops.Cycle 1 ∷ ops.Snapshot ∷ ops.Cycle 0 ∷ [])
 
 -- It was acknowledged last, and is one more than the first. The life may leave it, or the one of the failed save, of number 9, and no
 -- other, in particular none that is older.
 pub record LeavesOneOfTwo (start : Start) (first : Generation) : Type 0 where
-  pub acknowledged : Acknowledges start first journal (saved start)
-  pub rising : AreRising 7 told
-  pub newer : IsLeft start journal told (saved start) (record { number = 9; state = taken start })
-  pub others : (g : Generation) → IsLeft start journal told (saved start) g → (g ≡ saved start) ⊎ (g ≡ record { number = 9; state = taken start })
+  pub acknowledged : Acknowledges start first journal (saved_generation start)
+  pub rising : AreRising 7 answers_told
+  pub newer : IsLeft start journal answers_told (saved_generation start) (record { number = 9; state = snapshot_taken start })
+  pub others : (g : Generation) → IsLeft start journal answers_told (saved_generation start) g → (g ≡ saved_generation start) ⊎ (g ≡ record { number = 9; state = snapshot_taken start })
 
 abbrev pub LifeLeaves : Type 0
 LifeLeaves = (start : Start) (first : Generation) → LeavesOneOfTwo start first
 
 -- A save that failed, and also a job, have their cause in three faults each, if a sequence number is left.
 abbrev pub FailuresHaveFaults : Type 0
-FailuresHaveFaults = (c : Config) (boot next : Moment) → AreCaused c boot next (answers.Drained 1 1 ∷ told)
+FailuresHaveFaults = (c : Config) (boot next : Moment) → AreCaused c boot next (answers.Drained 1 1 ∷ answers_told)
     → HasRisenBy 3 boot.faults next.faults × (IsFalse next.is_spent → HasRisenBy 6 boot.faults next.faults)
 
 -- The calls of a lane at the places 1, 3 and 4 rise; two calls at one place do not.

@@ -48,14 +48,14 @@ number_by (ops.Saved number) before = number
 number_by _ before = before
 
 -- The number that a journal acknowledges last, newest entry first, or the one before it.
-abbrev pub number_in : Journal → ℕ → ℕ
-number_in [] before = before
-number_in (e ∷ earlier) before = number_by e.op (number_in earlier before)
+abbrev pub number_acknowledged : Journal → ℕ → ℕ
+number_acknowledged [] before = before
+number_acknowledged (e ∷ earlier) before = number_by e.op (number_acknowledged earlier before)
 
 -- The number that was acknowledged last in lives, newest first, or 0 if none was.
 abbrev pub acknowledged_in : List LifeView → ℕ
 acknowledged_in [] = 0
-acknowledged_in (life ∷ earlier) = number_in life.journal (acknowledged_in earlier)
+acknowledged_in (life ∷ earlier) = number_acknowledged life.journal (acknowledged_in earlier)
 
 -- The generation that a call of a lane acknowledges, with the state that the lane took last, or the one before.
 abbrev pub generation_by : Start → ℕ → Journal → Op → Option Generation → Option Generation

@@ -14,10 +14,10 @@ failures (SaveFailed fault ∷ earlier) = failures earlier + 1
 failures (_ ∷ earlier) = failures earlier
 
 -- The number that was acknowledged last, or the one with which the life started.
-abbrev pub last_number : ℕ → List Told → ℕ
-last_number first [] = first
-last_number first (Saved number ∷ earlier) = number
-last_number first (_ ∷ earlier) = last_number first earlier
+abbrev pub last_saved_number : ℕ → List Told → ℕ
+last_saved_number first [] = first
+last_saved_number first (Saved number ∷ earlier) = number
+last_saved_number first (_ ∷ earlier) = last_saved_number first earlier
 
 -- The number is one more than this, plus at most one for each save that failed between.
 abbrev pub IsNextNumber : ℕ → ℕ → ℕ → Type 0
@@ -26,7 +26,7 @@ IsNextNumber earlier failed number = (earlier + 1 ≤ number) × (number ≤ ear
 -- Each number that was acknowledged is the next one.
 abbrev pub AreRising : ℕ → List Told → Type 0
 AreRising first [] = Unit {0}
-AreRising first (Saved number ∷ earlier) = IsNextNumber (last_number first earlier) (failures earlier) number × AreRising first earlier
+AreRising first (Saved number ∷ earlier) = IsNextNumber (last_saved_number first earlier) (failures earlier) number × AreRising first earlier
 AreRising first (_ ∷ earlier) = AreRising first earlier
 
 -- A generation of a save that was not acknowledged: its number is past the last acknowledged one by at most one for each save that

@@ -11,13 +11,13 @@ use Rattle.flt_life_model.specs.Answers.{Told}
 use Rattle.flt_life_model.specs.Causes.{HasFailedBy, flash_failures, jobs_failed}
 use Rattle.flt_life_model.specs.Chain.{start_from}
 use Rattle.flt_life_model.specs.Journal.{Journal, Acknowledges}
-use Rattle.flt_life_model.specs.Saving.{IsLeft, AreRising, last_number}
+use Rattle.flt_life_model.specs.Saving.{IsLeft, AreRising, last_saved_number}
 
 -- Both generations of the image are the one that was acknowledged last, or one of a save since then.
 pub record IsKeptSince (c : Config) (first : Generation) (journal : Journal) (told : List Told) (held spare : Generation) : Type 0 where
   pub last : Generation
   pub acknowledged : Acknowledges (start_from c first.state) first journal last
-  pub number : last_number first.number told ≡ last.number
+  pub number : last_saved_number first.number told ≡ last.number
   pub held_is : IsLeft (start_from c first.state) journal told last held
   pub spare_is : IsLeft (start_from c first.state) journal told last spare
   pub rising : AreRising first.number told

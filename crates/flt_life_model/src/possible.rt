@@ -44,7 +44,7 @@ fn is_possible_call(config: &Config, op: &Op) -> bool
 
 /// Whether a step may make the call of the queue, and its numbers are in their ranges.
 fn is_possible_job(config: &Config, op: &QueueOp) -> bool
-    ensures { IsTrue result ↔ (IsQueueCall op.now × jobs.IsAdmitted config.now.blocks op.now) }
+    ensures { IsTrue result ↔ (IsQueueCall op.now × jobs.IsQueueCallFor config.now.blocks op.now) }
 {
     match op {
         QueueOp::Post { job, .. } => job.block < config.blocks && 0 < job.bytes.len(),

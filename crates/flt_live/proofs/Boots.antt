@@ -25,7 +25,7 @@ use Rattle.flt_report.specs.Boot.{boot_line}
 use Rattle.flt_live.specs.declared.living.LifeEnd.{LifeEnd}
 use Rattle.flt_live.specs.declared.living.LifeEnd.TheVariants.{Power, Ended, Unread, Unwritten, Memory}
 use Rattle.flt_live.specs.Begun.{BeginsOn, IsBegunBy}
-use Rattle.flt_live.specs.Heard.{Says, Talk, answers_of}
+use Rattle.flt_live.specs.Heard.{SaysLine, Talk, answer_bytes}
 use Rattle.flt_live.specs.Lived.{GoesOnBy, IfLost, IsCutShort, IsLifeLived, IsLostFor, TakesDarkLines, TakesLines, UnlessLost, lost_by}
 use Rattle.flt_live.proofs.Hearing.{lost_anyway, lost_cut, lost_for, rose_later}
 use Rattle.std.proofs.lemmas.List.{append-nil}
@@ -65,7 +65,7 @@ on_taken fact result value is holds = subst (λ r. OnOk r fact) is holds
 
 module _ {B : Type 0} {b : Ghosts B} (c : Config) (number status : ℕ) (before : BlocksState) (begun last : Store B b) (unit : UnitView) (from after : Talk) (end : LifeEnd) where
   -- A life whose first line was written.
-  pub life_lived : (boot : Boot) → status ≡ status_by boot → BeginsOn c before boot begun → (between : Talk) → Says (boot_line number boot) from between → from.write_faults ≤ between.write_faults
+  pub life_lived : (boot : Boot) → status ≡ status_by boot → BeginsOn c before boot begun → (between : Talk) → SaysLine (boot_line number boot) from between → from.write_faults ≤ between.write_faults
       → UnlessLost end (GoesOnBy c boot before.value begun last unit between after end) → IsLostFor between.write_faults after.write_faults end
       → IfLost end (IsCutShort c [] between after) → from.read_faults ≤ after.read_faults → between.write_faults ≤ after.write_faults → IsLifeLived c number status before last unit from after end
   life_lived boot is begins between says later goes lost cut reads writes = record {
@@ -74,11 +74,11 @@ module _ {B : Type 0} {b : Ghosts B} (c : Config) (number status : ℕ) (before 
     begun = begun;
     is = begins;
     said = unless end (GoesOnBy c boot before.value begun last unit between after end)
-        ((t : Talk) × Says (boot_line number boot) from t × GoesOnBy c boot before.value begun last unit t after end)
+        ((t : Talk) × SaysLine (boot_line number boot) from t × GoesOnBy c boot before.value begun last unit t after end)
         (λ holds. (between, says, holds)) goes;
     lost = lost_later end from.write_faults between.write_faults after.write_faults later lost;
     cut = if_lost end (IsCutShort c [] between after) (IsCutShort c (boot_line number boot) from after)
-        (λ short. record { heard = short.heard; made = short.made; are = short.are; front = front_more from.held between.held after.held (boot_line number boot) (answers_of short.heard) says.written short.front }) cut;
+        (λ short. record { heard = short.heard; made = short.made; are = short.are; front = front_more from.held between.held after.held (boot_line number boot) (answer_bytes short.heard) says.written short.front }) cut;
     later = record { read = reads; write = omega (arith, later, writes) };
   }
 
@@ -90,7 +90,7 @@ module _ {B : Type 0} {b : Ghosts B} (c : Config) (number status : ℕ) (before 
     status_is = is;
     begun = begun;
     is = begins;
-    said = lost_anyway fault end ((t : Talk) × Says (boot_line number boot) from t × GoesOnBy c boot before.value begun last unit t after end) lost;
+    said = lost_anyway fault end ((t : Talk) × SaysLine (boot_line number boot) from t × GoesOnBy c boot before.value begun last unit t after end) lost;
     lost = lost_for from.write_faults from.write_faults after.write_faults fault end lost (omega arith) rose;
     cut = lost_cut fault end (IsCutShort c (boot_line number boot) from after) lost
         (record { heard = []; made = []; are = refl; front = subst (AppendsFront from.held after.held) (sym (append-nil (boot_line number boot))) front });

@@ -13,7 +13,7 @@ use Rattle.flt_io.specs.declared.stream.StreamFault.TheVariants as streams
 use Rattle.flt_live.specs.Heard.{Talk, talk}
 use Rattle.flt_file.specs.declared.opening.OpenFault.{OpenFault}
 use Rattle.flt_live.specs.Span.{LivesPassed}
-use Rattle.flt_live.specs.Session.{EndsFor, IsClosed, IsCutBy, IsCutInALife, IsCutWith, IsEndOf, IsIdle, SessionEnd, Unreadable, Refused, Other, Closed, Unread, Ended, HasCause, IsSession, Reading, status_due, status_of_shelf, status_told}
+use Rattle.flt_live.specs.Session.{EndsFor, IsClosed, IsCutBy, IsCutInALife, IsCutWith, IsEndOf, AreIdleLives, SessionEnd, Unreadable, Refused, Other, Closed, Unread, Ended, SessionHasCause, IsSession, Reading, status_due, status_of_shelf, status_told}
 use Rattle.flt_live.proofs.Hearing.{rose_later}
 use Rattle.flt_live.proofs.Writings.{nothing_more}
 
@@ -31,7 +31,7 @@ ends_for P Q C D before after status more cut (inl ended) = inl (record { end = 
 ends_for P Q C D before after status more cut (inr lost) = inr (lost.0, cut lost.1)
 
 -- A flash was not given, and bytes say why, or were not written.
-pub shelf_ends : (tells : Bool) (script : ScriptContent) (fault : OpenFault) (before between after : Talk) (status : ℕ) → IsIdle script.lives → LivesPassed tells script.config before between → after.ahead ≡ between.ahead → before.write_faults ≤ between.write_faults
+pub shelf_ends : (tells : Bool) (script : ScriptContent) (fault : OpenFault) (before between after : Talk) (status : ℕ) → AreIdleLives script.lives → LivesPassed tells script.config before between → after.ahead ≡ between.ahead → before.write_faults ≤ between.write_faults
     → (text : List ℕ) × Appends between.held after.held text → (status ≡ status_of_shelf fault) ⊎ ((status ≡ 7) ⊎ ((status ≡ 4) × Rose between.write_faults after.write_faults))
     → EndsFor (IsEndOf tells script before after) (IsCutBy tells script before after) before after status
 shelf_ends tells script fault before between after status idle lived ahead later written is = by_status is
@@ -53,10 +53,10 @@ cut_for_memory tells script before after (inr lived) = inr (inl (record { betwee
 pub session_of : (tells : Bool) (dids : List DidUse) (config : Reading) (before after : Talk) (status : ℕ) (script : ScriptContent) → IsAtEnd config.left_after → AreScript dids config.left script
     → EndsFor (IsEndOf tells script before after) (IsCutBy tells script before after) before after status → IsSession tells dids config before after status
 session_of tells dids config before after status script at_end are ended =
-    ends_for (IsEndOf tells script before after) (HasCause tells dids config before after) (IsCutBy tells script before after) (IsCutWith tells dids config before after) before after status more
+    ends_for (IsEndOf tells script before after) (SessionHasCause tells dids config before after) (IsCutBy tells script before after) (IsCutWith tells dids config before after) before after status more
     (λ cut. inr (inr (script, at_end, are, cut))) ended
   where
-    more : (end : SessionEnd) → IsEndOf tells script before after end → HasCause tells dids config before after end
+    more : (end : SessionEnd) → IsEndOf tells script before after end → SessionHasCause tells dids config before after end
     more Unreadable cause = absurd cause
     more (Refused fault) cause = absurd cause
     more Other cause = (script, at_end, are, cause)

@@ -28,10 +28,10 @@ use Rattle.flt_live.specs.declared.living.LifeEnd.{LifeEnd}
 use Rattle.flt_live.specs.declared.living.LifeEnd.TheVariants as ends
 use Rattle.flt_live.specs.declared.reader.Line.{Line}
 use Rattle.flt_live.specs.declared.reader.Line.TheVariants.{Fed, Cut, Ended}
-use Rattle.flt_live.specs.Ahead.{TakesLine, end_of, text_of}
+use Rattle.flt_live.specs.Ahead.{TakesLine, line_end_of, kept_text}
 use Rattle.flt_live.specs.Answered.{Answers, IsDarkLineAnswered, IsLineAnswered, IsToldBy, LeavesAll, dark_line}
 use Rattle.flt_live.specs.Due.{due_at}
-use Rattle.flt_live.specs.Heard.{AreHeard, ComesTo, Heard, IsOneLine, Talk, answers_of, bytes_of, talk, text_in}
+use Rattle.flt_live.specs.Heard.{AreHeard, LineComesTo, Heard, IsOneLine, Talk, answer_bytes, heard_bytes, talk, text_in}
 use Rattle.flt_live.specs.Lived.{AreDark, IfLost, IsCutShort, IsLostFor, TakesDarkLines, TakesLines, UnlessLost, lost_by}
 use Rattle.flt_live.specs.Made.{IsMidway, Made}
 use Rattle.flt_live.proofs.Taking.{then_takes}
@@ -90,21 +90,21 @@ pub failed_rose : {K T : Type 0} (held : K → Option (List ℕ)) (count : K →
 failed_rose held count before after text result fault is writes same = writes.cause (is ∙ ap Err same)
 
 -- A line was not answered whole: a front of the answers so far and of its own was written.
-cut_by : (c : Config) (first middle last : Option (List ℕ)) (heard : List Heard) (made : List Made) → AreHeard c heard made → Appends first middle (answers_of heard) → (start : Talk) → start.held ≡ first → (next : Talk) → next.held ≡ last
-    → (line : Heard) → IsOneLine line.ended line.whole → AppendsFront middle last line.answer → (line.answer ≡ []) ⊎ ((more : List Made) × ComesTo (due_at c (text_in line)) line.answer made more) → IsCutShort c [] start next
+cut_by : (c : Config) (first middle last : Option (List ℕ)) (heard : List Heard) (made : List Made) → AreHeard c heard made → Appends first middle (answer_bytes heard) → (start : Talk) → start.held ≡ first → (next : Talk) → next.held ≡ last
+    → (line : Heard) → IsOneLine line.ended line.whole → AppendsFront middle last line.answer → (line.answer ≡ []) ⊎ ((more : List Made) × LineComesTo (due_at c (text_in line)) line.answer made more) → IsCutShort c [] start next
 cut_by c first middle last heard made are written start start_is next next_is line one front (inl none) = record {
   heard = heard;
   made = made;
   are = are;
-  front = subst (λ a. AppendsFront a next.held (answers_of heard)) (sym start_is) (subst (λ b. AppendsFront first b (answers_of heard)) (sym next_is)
-      (subst (AppendsFront first last) (ap (λ l. answers_of heard ++ l) none ∙ append-nil (answers_of heard)) (front_more first middle last (answers_of heard) line.answer written front)));
+  front = subst (λ a. AppendsFront a next.held (answer_bytes heard)) (sym start_is) (subst (λ b. AppendsFront first b (answer_bytes heard)) (sym next_is)
+      (subst (AppendsFront first last) (ap (λ l. answer_bytes heard ++ l) none ∙ append-nil (answer_bytes heard)) (front_more first middle last (answer_bytes heard) line.answer written front)));
 }
 cut_by c first middle last heard made are written start start_is next next_is line one front (inr come) = record {
   heard = line ∷ heard;
   made = come.0;
   are = (made, are, one, come.1);
-  front = subst (λ a. AppendsFront a next.held (answers_of (line ∷ heard))) (sym start_is) (subst (λ b. AppendsFront first b (answers_of (line ∷ heard))) (sym next_is)
-      (front_more first middle last (answers_of heard) line.answer written front));
+  front = subst (λ a. AppendsFront a next.held (answer_bytes (line ∷ heard))) (sym start_is) (subst (λ b. AppendsFront first b (answer_bytes (line ∷ heard))) (sym next_is)
+      (front_more first middle last (answer_bytes heard) line.answer written front));
 }
 
 -- Nothing was read.
@@ -123,8 +123,8 @@ module _ {B : Type 0} {b : Ghosts B} (c : Config) (first : Generation) (found : 
     pub made : List Made
     pub are : AreHeard c heard made
     pub midway : IsMidway c first found begun made unit queue store
-    pub written : Appends before.held now.held (answers_of heard)
-    pub read : Consumes before.ahead now.ahead (bytes_of heard)
+    pub written : Appends before.held now.held (answer_bytes heard)
+    pub read : Consumes before.ahead now.ahead (heard_bytes heard)
 
   -- Nothing changed.
   moved : (made : List Made) (unit next_unit : UnitView) (queue next_queue : JobQueue) (store next_store : Store B b) → next_unit ≡ unit → next_queue ≡ queue → next_store ≡ store
@@ -137,7 +137,7 @@ module _ {B : Type 0} {b : Ghosts B} (c : Config) (first : Generation) (found : 
   -- What a line comes to, by what is due.
   comes : (made : List Made) (what : Due) (line : List ℕ) (unit next_unit : UnitView) (queue next_queue : JobQueue) (store next_store : Store B b) → what ≢ due.Power
       → Answers c what line unit next_unit queue next_queue store next_store → IsMidway c first found begun made unit queue store
-      → (more : List Made) × ComesTo what line made more × IsMidway c first found begun more next_unit next_queue next_store
+      → (more : List Made) × LineComesTo what line made more × IsMidway c first found begun more next_unit next_queue next_store
   comes made due.Nothing line unit next_unit queue next_queue store next_store other (is, unit_is, queue_is, store_is) mid =
       (made, (is, refl), moved made unit next_unit queue next_queue store next_store unit_is queue_is store_is mid)
   comes made (due.Refuse refusal) line unit next_unit queue next_queue store next_store other (is, unit_is, queue_is, store_is) mid =
@@ -148,7 +148,7 @@ module _ {B : Type 0} {b : Ghosts B} (c : Config) (first : Generation) (found : 
 
   -- Of a line it is known what it comes to, or it is a `power`.
   may_come : (what : Due) (line : List ℕ) (unit next_unit : UnitView) (queue next_queue : JobQueue) (store next_store : Store B b) (made : List Made) → Answers c what line unit next_unit queue next_queue store next_store
-      → (line ≡ []) ⊎ ((more : List Made) × ComesTo what line made more)
+      → (line ≡ []) ⊎ ((more : List Made) × LineComesTo what line made more)
   may_come due.Nothing line unit next_unit queue next_queue store next_store made answers = inr (made, (answers.0, refl))
   may_come (due.Refuse refusal) line unit next_unit queue next_queue store next_store made answers = inr (made, (answers.0, refl))
   may_come (due.Make step) line unit next_unit queue next_queue store next_store made (answer, is, makes) = inr ((step, answer) ∷ made, (answer, is, refl))
@@ -173,14 +173,14 @@ module _ {B : Type 0} {b : Ghosts B} (c : Config) (first : Generation) (found : 
 
   module _ {K : Type 0} (held : K → Option (List ℕ)) (count : K → ℕ) (sink next_sink : K) (start : Talk) (ahead next_ahead : Option (List ℕ)) (reads next_reads : ℕ)
       (unit next_unit : UnitView) (queue next_queue : JobQueue) (store next_store : Store B b)
-      (ended : Line) (kept text : List ℕ) (taken : TakesLine ahead next_ahead ended kept) (not_ended : ended ≢ Ended) (text_is : text ≡ text_of ended kept)
+      (ended : Line) (kept text : List ℕ) (taken : TakesLine ahead next_ahead ended kept) (not_ended : ended ≢ Ended) (text_is : text ≡ kept_text ended kept)
       (going : IsGoing start (talk ahead reads (held sink) (count sink)) unit queue store)
       (result : Result Answered StreamFault) (answered : IsLineAnswered c (due_at c text) held count sink next_sink unit next_unit queue next_queue store next_store result) where
     abbrev heard : Heard
     heard = record { whole = taken.whole; ended = ended; answer = answered.line }
 
     due_is : due_at c text ≡ due_at c (text_in heard)
-    due_is = ap (due_at c) (text_is ∙ ap (text_of ended) taken.is)
+    due_is = ap (due_at c) (text_is ∙ ap (kept_text ended) taken.is)
 
     -- One line more was answered.
     pub going_more : result ≡ Ok told.Line → IsGoing start (talk next_ahead next_reads (held next_sink) (count next_sink)) next_unit next_queue next_store
@@ -191,10 +191,10 @@ module _ {B : Type 0} {b : Ghosts B} (c : Config) (first : Generation) (found : 
         record {
           heard = heard ∷ going.heard;
           made = come.0;
-          are = (going.made, going.are, one_line ahead next_ahead ended kept taken not_ended, subst (λ (what : Due). ComesTo what answered.line going.made come.0) due_is come.1);
+          are = (going.made, going.are, one_line ahead next_ahead ended kept taken not_ended, subst (λ (what : Due). LineComesTo what answered.line going.made come.0) due_is come.1);
           midway = come.2;
-          written = appends_more start.held (held sink) (held next_sink) (answers_of going.heard) answered.line going.written (whole held count sink next_sink answered.line result told.Line is answered.written);
-          read = then_takes start.ahead ahead next_ahead (bytes_of going.heard) (taken.whole ++ end_of ended) going.read taken.taken;
+          written = appends_more start.held (held sink) (held next_sink) (answer_bytes going.heard) answered.line going.written (whole held count sink next_sink answered.line result told.Line is answered.written);
+          read = then_takes start.ahead ahead next_ahead (heard_bytes going.heard) (taken.whole ++ line_end_of ended) going.read taken.taken;
         }
 
     -- It was a `power`.
@@ -203,19 +203,19 @@ module _ {B : Type 0} {b : Ghosts B} (c : Config) (first : Generation) (found : 
         let answers = given (due_at c text) answered.line unit next_unit queue next_queue store next_store result told.Power is answered.answers in
         let power = is_power (due_at c text) (told_by (due_at c text) result told.Power is answered.told) in
         let left = stays going.made (due_at c text) answered.line unit next_unit queue next_queue store next_store power answers going.midway in
-        let more = appends_more start.held (held sink) (held next_sink) (answers_of going.heard) answered.line going.written (whole held count sink next_sink answered.line result told.Power is answered.written) in
+        let more = appends_more start.held (held sink) (held next_sink) (answer_bytes going.heard) answered.line going.written (whole held count sink next_sink answered.line result told.Power is answered.written) in
         record {
           heard = going.heard;
           made = going.made;
           queue = next_queue;
           are = going.are;
           midway = left.1;
-          written = subst (Appends start.held (held next_sink)) (ap (λ l. answers_of going.heard ++ l) left.0 ∙ append-nil (answers_of going.heard)) more;
+          written = subst (Appends start.held (held next_sink)) (ap (λ l. answer_bytes going.heard ++ l) left.0 ∙ append-nil (answer_bytes going.heard)) more;
           ended = (
             heard,
             one_line ahead next_ahead ended kept taken not_ended,
             sym due_is ∙ power,
-            then_takes start.ahead ahead next_ahead (bytes_of going.heard) (taken.whole ++ end_of ended) going.read taken.taken,
+            then_takes start.ahead ahead next_ahead (heard_bytes going.heard) (taken.whole ++ line_end_of ended) going.read taken.taken,
           );
         }
 
@@ -225,13 +225,13 @@ module _ {B : Type 0} {b : Ghosts B} (c : Config) (first : Generation) (found : 
         (front_of held count sink next_sink answered.line result fault is answered.written) (by_answers answered.answers)
       where
         by_answers : Answers c (due_at c text) answered.line unit next_unit queue next_queue store next_store ⊎ LeavesAll result answered.line unit next_unit queue next_queue store next_store
-            → (answered.line ≡ []) ⊎ ((more : List Made) × ComesTo (due_at c (text_in heard)) answered.line going.made more)
-        by_answers (inl answers) = subst (λ (what : Due). (answered.line ≡ []) ⊎ ((more : List Made) × ComesTo what answered.line going.made more)) due_is (may_come (due_at c text) answered.line unit next_unit queue next_queue store next_store going.made answers)
+            → (answered.line ≡ []) ⊎ ((more : List Made) × LineComesTo (due_at c (text_in heard)) answered.line going.made more)
+        by_answers (inl answers) = subst (λ (what : Due). (answered.line ≡ []) ⊎ ((more : List Made) × LineComesTo what answered.line going.made more)) due_is (may_come (due_at c text) answered.line unit next_unit queue next_queue store next_store going.made answers)
         by_answers (inr leaves) = inl leaves.1
 
   module _ (start now next : Talk) (unit : UnitView) (queue : JobQueue) (store : Store B b) (going : IsGoing start now unit queue store) (same : next.held ≡ now.held) where
-    still : Appends start.held next.held (answers_of going.heard)
-    still = subst (λ held. Appends start.held held (answers_of going.heard)) (sym same) going.written
+    still : Appends start.held next.held (answer_bytes going.heard)
+    still = subst (λ held. Appends start.held held (answer_bytes going.heard)) (sym same) going.written
 
     -- There was no line more.
     pub end_ends : (kept : List ℕ) → TakesLine now.ahead next.ahead Ended kept → TakesLines c first found begun start next unit store ends.Ended
@@ -243,7 +243,7 @@ module _ {B : Type 0} {b : Ghosts B} (c : Config) (first : Generation) (found : 
       midway = going.midway;
       written = still;
       ended = (
-        subst (Consumes start.ahead next.ahead) (append-nil (bytes_of going.heard)) (then_takes start.ahead now.ahead next.ahead (bytes_of going.heard) [] going.read (none_taken now.ahead next.ahead kept taken)),
+        subst (Consumes start.ahead next.ahead) (append-nil (heard_bytes going.heard)) (then_takes start.ahead now.ahead next.ahead (heard_bytes going.heard) [] going.read (none_taken now.ahead next.ahead kept taken)),
         taken.end.1,
       );
     }
@@ -258,7 +258,7 @@ none_more (Some bytes) = refl
 
 -- No line was read.
 pub going_first : {B : Type 0} {b : Ghosts B} (c : Config) (first : Generation) (found : ℕ → Content) (now : Talk) (unit : UnitView) (queue : JobQueue) (store : Store B b) → IsLiving c first [] [] unit store
-    → SameApplications found (driver_of store).value → standing.Stands c.blocks [] queue → IsGoing c first found (driver_of store) now now unit queue store
+    → SameApplications found (driver_of store).value → standing.QueueStands c.blocks [] queue → IsGoing c first found (driver_of store) now now unit queue store
 going_first c first found now unit queue store living same stands = record {
   heard = [];
   made = [];
@@ -292,8 +292,8 @@ module _ (c : Config) where
     pub made : List Made
     pub are : AreHeard c heard made
     pub dark : AreDark made
-    pub written : Appends before.held now.held (answers_of heard)
-    pub read : Consumes before.ahead now.ahead (bytes_of heard)
+    pub written : Appends before.held now.held (answer_bytes heard)
+    pub read : Consumes before.ahead now.ahead (heard_bytes heard)
 
   pub dark_first : (now : Talk) → IsDarkGoing now now
   dark_first now = record { heard = []; made = []; are = refl; dark = tt; written = nothing_more now.held; read = none_more now.ahead }
@@ -302,13 +302,13 @@ module _ (c : Config) where
       none_more None = tt
       none_more (Some bytes) = refl
 
-  dark_comes : (made : List Made) (what : Due) (line : List ℕ) → what ≢ due.Power → line ≡ dark_line what → AreDark made → (more : List Made) × ComesTo what line made more × AreDark more
+  dark_comes : (made : List Made) (what : Due) (line : List ℕ) → what ≢ due.Power → line ≡ dark_line what → AreDark made → (more : List Made) × LineComesTo what line made more × AreDark more
   dark_comes made due.Nothing line other is dark = (made, (is, refl), dark)
   dark_comes made (due.Refuse refusal) line other is dark = (made, (is, refl), dark)
   dark_comes made (due.Make step) line other is dark = ((step, Dark) ∷ made, (Dark, is, refl), (refl, dark))
   dark_comes made due.Power line other is dark = absurd (other refl)
 
-  dark_may_come : (made : List Made) (what : Due) (line : List ℕ) → line ≡ dark_line what → (line ≡ []) ⊎ ((more : List Made) × ComesTo what line made more)
+  dark_may_come : (made : List Made) (what : Due) (line : List ℕ) → line ≡ dark_line what → (line ≡ []) ⊎ ((more : List Made) × LineComesTo what line made more)
   dark_may_come made due.Nothing line is = inr (made, (is, refl))
   dark_may_come made (due.Refuse refusal) line is = inr (made, (is, refl))
   dark_may_come made (due.Make step) line is = inr ((step, Dark) ∷ made, (Dark, is, refl))
@@ -323,14 +323,14 @@ module _ (c : Config) where
   dark_given what line result answered is (inr leaves) = absurd (cc (sym is ∙ leaves.0))
 
   module _ {K : Type 0} (held : K → Option (List ℕ)) (count : K → ℕ) (sink next_sink : K) (start : Talk) (ahead next_ahead : Option (List ℕ)) (reads next_reads : ℕ)
-      (ended : Line) (kept text : List ℕ) (taken : TakesLine ahead next_ahead ended kept) (not_ended : ended ≢ Ended) (text_is : text ≡ text_of ended kept)
+      (ended : Line) (kept text : List ℕ) (taken : TakesLine ahead next_ahead ended kept) (not_ended : ended ≢ Ended) (text_is : text ≡ kept_text ended kept)
       (going : IsDarkGoing start (talk ahead reads (held sink) (count sink)))
       (result : Result Answered StreamFault) (answered : IsDarkLineAnswered (due_at c text) held count sink next_sink result) where
     abbrev dark_heard : Heard
     dark_heard = record { whole = taken.whole; ended = ended; answer = answered.line }
 
     dark_due_is : due_at c text ≡ due_at c (text_in dark_heard)
-    dark_due_is = ap (due_at c) (text_is ∙ ap (text_of ended) taken.is)
+    dark_due_is = ap (due_at c) (text_is ∙ ap (kept_text ended) taken.is)
 
     pub dark_more : result ≡ Ok told.Line → IsDarkGoing start (talk next_ahead next_reads (held next_sink) (count next_sink))
     dark_more is =
@@ -339,28 +339,28 @@ module _ (c : Config) where
         record {
           heard = dark_heard ∷ going.heard;
           made = come.0;
-          are = (going.made, going.are, one_line ahead next_ahead ended kept taken not_ended, subst (λ (what : Due). ComesTo what answered.line going.made come.0) dark_due_is come.1);
+          are = (going.made, going.are, one_line ahead next_ahead ended kept taken not_ended, subst (λ (what : Due). LineComesTo what answered.line going.made come.0) dark_due_is come.1);
           dark = come.2;
-          written = appends_more start.held (held sink) (held next_sink) (answers_of going.heard) answered.line going.written (whole held count sink next_sink answered.line result told.Line is answered.written);
-          read = then_takes start.ahead ahead next_ahead (bytes_of going.heard) (taken.whole ++ end_of ended) going.read taken.taken;
+          written = appends_more start.held (held sink) (held next_sink) (answer_bytes going.heard) answered.line going.written (whole held count sink next_sink answered.line result told.Line is answered.written);
+          read = then_takes start.ahead ahead next_ahead (heard_bytes going.heard) (taken.whole ++ line_end_of ended) going.read taken.taken;
         }
 
     pub dark_power_ends : result ≡ Ok told.Power → TakesDarkLines c start (talk next_ahead next_reads (held next_sink) (count next_sink)) ends.Power
     dark_power_ends is =
         let power = is_power (due_at c text) (told_by (due_at c text) result told.Power is answered.told) in
         let none = dark_stays (due_at c text) answered.line power (dark_given (due_at c text) answered.line result told.Power is answered.is) in
-        let more = appends_more start.held (held sink) (held next_sink) (answers_of going.heard) answered.line going.written (whole held count sink next_sink answered.line result told.Power is answered.written) in
+        let more = appends_more start.held (held sink) (held next_sink) (answer_bytes going.heard) answered.line going.written (whole held count sink next_sink answered.line result told.Power is answered.written) in
         record {
           heard = going.heard;
           made = going.made;
           are = going.are;
           dark = going.dark;
-          written = subst (Appends start.held (held next_sink)) (ap (λ l. answers_of going.heard ++ l) none ∙ append-nil (answers_of going.heard)) more;
+          written = subst (Appends start.held (held next_sink)) (ap (λ l. answer_bytes going.heard ++ l) none ∙ append-nil (answer_bytes going.heard)) more;
           ended = (
             dark_heard,
             one_line ahead next_ahead ended kept taken not_ended,
             sym dark_due_is ∙ power,
-            then_takes start.ahead ahead next_ahead (bytes_of going.heard) (taken.whole ++ end_of ended) going.read taken.taken,
+            then_takes start.ahead ahead next_ahead (heard_bytes going.heard) (taken.whole ++ line_end_of ended) going.read taken.taken,
           );
         }
 
@@ -368,13 +368,13 @@ module _ (c : Config) where
     dark_lost_ends fault is = cut_by c start.held (held sink) (held next_sink) going.heard going.made going.are going.written start refl (talk next_ahead next_reads (held next_sink) (count next_sink)) refl dark_heard (one_line ahead next_ahead ended kept taken not_ended)
         (front_of held count sink next_sink answered.line result fault is answered.written) (by_line answered.is)
       where
-        by_line : (answered.line ≡ dark_line (due_at c text)) ⊎ ((result ≡ Err streams.Memory) × (answered.line ≡ [])) → (answered.line ≡ []) ⊎ ((more : List Made) × ComesTo (due_at c (text_in dark_heard)) answered.line going.made more)
-        by_line (inl line_is) = subst (λ (what : Due). (answered.line ≡ []) ⊎ ((more : List Made) × ComesTo what answered.line going.made more)) dark_due_is (dark_may_come going.made (due_at c text) answered.line line_is)
+        by_line : (answered.line ≡ dark_line (due_at c text)) ⊎ ((result ≡ Err streams.Memory) × (answered.line ≡ [])) → (answered.line ≡ []) ⊎ ((more : List Made) × LineComesTo (due_at c (text_in dark_heard)) answered.line going.made more)
+        by_line (inl line_is) = subst (λ (what : Due). (answered.line ≡ []) ⊎ ((more : List Made) × LineComesTo what answered.line going.made more)) dark_due_is (dark_may_come going.made (due_at c text) answered.line line_is)
         by_line (inr leaves) = inl leaves.1
 
   module _ (start now next : Talk) (going : IsDarkGoing start now) (same : next.held ≡ now.held) where
-    dark_still : Appends start.held next.held (answers_of going.heard)
-    dark_still = subst (λ held. Appends start.held held (answers_of going.heard)) (sym same) going.written
+    dark_still : Appends start.held next.held (answer_bytes going.heard)
+    dark_still = subst (λ held. Appends start.held held (answer_bytes going.heard)) (sym same) going.written
 
     pub dark_end_ends : (kept : List ℕ) → TakesLine now.ahead next.ahead Ended kept → TakesDarkLines c start next ends.Ended
     dark_end_ends kept taken = record {
@@ -384,7 +384,7 @@ module _ (c : Config) where
       dark = going.dark;
       written = dark_still;
       ended = (
-        subst (Consumes start.ahead next.ahead) (append-nil (bytes_of going.heard)) (then_takes start.ahead now.ahead next.ahead (bytes_of going.heard) [] going.read (none_taken now.ahead next.ahead kept taken)),
+        subst (Consumes start.ahead next.ahead) (append-nil (heard_bytes going.heard)) (then_takes start.ahead now.ahead next.ahead (heard_bytes going.heard) [] going.read (none_taken now.ahead next.ahead kept taken)),
         taken.end.1,
       );
     }

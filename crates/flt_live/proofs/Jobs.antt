@@ -9,7 +9,7 @@ use Rattle.flt_queue.specs.Reply.{QueueReply}
 use Rattle.flt_queue.specs.declared.job.QueueReplyOf.TheVariants as replies
 use Rattle.flt_queue.specs.declared.queue.JobQueue.{JobQueue}
 use Rattle.flt_queue.specs.Queue.{History, handed_out}
-use Rattle.flt_queue.specs.Stands.{Stands}
+use Rattle.flt_queue.specs.Stands.{QueueStands}
 use Rattle.flt_store.specs.declared.store.Store.{Store}
 use Rattle.flt_store.specs.Store.{driver_of}
 use Rattle.flt_turn.specs.Sums.{one_if}
@@ -19,7 +19,7 @@ use Rattle.flt_life_model.specs.SoFar.{IsCaused}
 use Rattle.flt_life_model.specs.declared.answer.StepAnswer.TheVariants as answers
 use Rattle.flt_life_model.proofs.Causing.{caused_job, caused_same}
 use Rattle.flt_life_model.proofs.HeldBlocks.{hand_taken, held_beside, held_done}
-use Rattle.flt_live.specs.Draining.{CarriesJobs, Drained, Drains, HasDrained, IsDraining, IsJobTaken, behind_jobs}
+use Rattle.flt_live.specs.Draining.{CarriesJobs, TakenJob, Drains, HasDrained, IsDraining, IsJobTaken, behind_jobs}
 
 -- What a take handed out was the next job.
 pub job_out : (next : Option Job) (job : Job) → replies.Job job ≡ handed_out next → next ≡ Some job
@@ -65,7 +65,7 @@ module _ {B : Type 0} {b : Ghosts B} (c : Config) where
   }
 
   module _ (before : History) (store : Store B b) where
-    pub draining_first : (queue : JobQueue) → Stands c.blocks before queue → IsDraining c before 0 0 0 queue store store
+    pub draining_first : (queue : JobQueue) → QueueStands c.blocks before queue → IsDraining c before 0 0 0 queue store store
     draining_first queue stands = record { jobs = []; count_is = refl; taken = tt; written_is = refl; failed_is = refl; all = refl; stands = stands; carries = carries_nothing before store }
 
     pub draining_more : (count written failed : ℕ) (was : Bool) (queue next : JobQueue) (middle now : Store B b) → (on : IsDraining c before count written failed queue store middle)
@@ -75,8 +75,8 @@ module _ {B : Type 0} {b : Ghosts B} (c : Config) where
         let written_is = on.written_is in
         let failed_is = on.failed_is in
         let count_is = on.count_is in
-        let more_written = sum_by-cons (λ (d : Drained). one_if d.1) (job, was) on.jobs in
-        let more_failed = sum_by-cons (λ (d : Drained). one_if (not d.1)) (job, was) on.jobs in
+        let more_written = sum_by-cons (λ (d : TakenJob). one_if d.1) (job, was) on.jobs in
+        let more_failed = sum_by-cons (λ (d : TakenJob). one_if (not d.1)) (job, was) on.jobs in
         record {
           jobs = (job, was) ∷ on.jobs;
           count_is = omega (arith, count_is);

@@ -37,12 +37,12 @@ use Rattle.flt_life_model.proofs.HeldBlocks.{apart, held_beside, held_by, held_d
 use Rattle.flt_life_model.proofs.Keeping.{kept_entry, kept_other}
 use Rattle.flt_lives.specs.Living.{IsLiving}
 use Rattle.flt_live.specs.Draining.{HasDrained}
-use Rattle.flt_live.specs.Made.{Finds, IsAnswered, IsMidway, IsSave, MakesStep, Made, ReadsSo, SavesSo, deeds_made, deeds_of, journal_of, with_calls, with_deed_by, with_save}
+use Rattle.flt_live.specs.Made.{Finds, IsAnswered, IsMidway, IsSave, MakesStep, Made, ReadsSo, SavesSo, deeds_made, answers_of_made, journal_of, with_calls, with_deed_by, with_save}
 
 module _ {B : Type 0} {b : Ghosts B} (c : Config) (step : Step) (told : Told) where
   midway_more : (action : Action) → action_of step ≡ action → (first : Generation) (found : ℕ → Content) (begun : BlocksState) (made : List Made) (unit next_unit : UnitView) (queue next_queue : JobQueue) (store next_store : Store B b)
       (mid : IsMidway c first found begun made unit queue store) (jobs : History)
-      → IsLiving c first (with_calls action told (journal_of made)) (answers_of (with_deed_by action step told (deeds_made made))) next_unit next_store → standing.Stands c.blocks jobs next_queue
+      → IsLiving c first (with_calls action told (journal_of made)) (answers_of (with_deed_by action step told (deeds_made made))) next_unit next_store → standing.QueueStands c.blocks jobs next_queue
       → IsAnswered (start_from c first.state) (journal_of made) mid.jobs action told jobs → Follows (driver_of store) (driver_of next_store)
       → IsCaused c begun.device.faults (answers_of (with_deed_by action step told (deeds_made made))) next_store
       → AreHeld found jobs (jobs_told (answers_of (with_deed_by action step told (deeds_made made)))) (with_deed_by action step told (deeds_made made)) (driver_of next_store).value
@@ -109,55 +109,55 @@ module _ {B : Type 0} {b : Ghosts B} (c : Config) (step : Step) where
         held = living.held;
         spare = living.spare;
         running = living.running;
-        kept = kept_entry c first (journal_of made) (deeds_of made) living.held living.spare living.kept 0 op step_call;
+        kept = kept_entry c first (journal_of made) (answers_of_made made) living.held living.spare living.kept 0 op step_call;
       })
       mid.queued (replied start (calls_of (journal_of made)) living.stands, refl) (no_call (driver_of store)) mid.caused mid.held
 
   pub made_queue : (op : QueueOp) (place : ℕ) (reply : QueueReply) → action_of step ≡ actions.Queue op → IsQueueCall op → (unit : UnitView) (queue next_queue : JobQueue) (store : Store B b)
-      → ((jobs : History) → standing.Stands c.blocks jobs queue → standing.Stands c.blocks (op ∷ jobs) next_queue) → ((jobs : History) → standing.Stands c.blocks jobs queue → reply ≡ answer_q jobs op)
+      → ((jobs : History) → standing.QueueStands c.blocks jobs queue → standing.QueueStands c.blocks (op ∷ jobs) next_queue) → ((jobs : History) → standing.QueueStands c.blocks jobs queue → reply ≡ answer_q jobs op)
       → MakesStep c step (answers.Queue (record { place = place; reply = reply })) unit unit queue next_queue store store
   made_queue op place reply is queue_call unit queue next_queue store stands replied = λ first found begun made mid.
       midway_more c step (answers.Queue (record { place = place; reply = reply })) (actions.Queue op) is first found begun made unit unit queue next_queue store store mid (op ∷ mid.jobs)
       mid.living (stands mid.jobs mid.queued) (replied mid.jobs mid.queued, refl) (no_call (driver_of store)) mid.caused
-      (held_beside found (jobs_told (deeds_of made)) (deeds_made made) (driver_of store).value op mid.jobs (apart op queue_call) mid.held)
+      (held_beside found (jobs_told (answers_of_made made)) (deeds_made made) (driver_of store).value op mid.jobs (apart op queue_call) mid.held)
 
   pub made_save : (told : Told) → action_of step ≡ actions.Save → (unit next_unit : UnitView) (queue : JobQueue) (store next_store : Store B b) → SavesSo c unit next_unit store next_store told
       → MakesStep c step told unit next_unit queue queue store next_store
   made_save told is unit next_unit queue store next_store saves = λ first found begun made mid.
-      midway_more c step told actions.Save is first found begun made unit next_unit queue queue store next_store mid mid.jobs (saves.living first (journal_of made) (deeds_of made) mid.living) mid.queued (saves.is, refl) saves.follows
-      (saves.caused begun.device.faults (deeds_of made) mid.caused)
-      (held_deed found (deeds_made made) (step, told) (driver_of store).value (driver_of next_store).value saves.applications (save_tells_none told (deeds_of made) saves.is) mid.jobs
+      midway_more c step told actions.Save is first found begun made unit next_unit queue queue store next_store mid mid.jobs (saves.living first (journal_of made) (answers_of_made made) mid.living) mid.queued (saves.is, refl) saves.follows
+      (saves.caused begun.device.faults (answers_of_made made) mid.caused)
+      (held_deed found (deeds_made made) (step, told) (driver_of store).value (driver_of next_store).value saves.applications (save_tells_none told (answers_of_made made) saves.is) mid.jobs
       (λ held. subst (λ (does : Action). GetsBy found mid.jobs (deeds_made made) does told) (sym is) tt) mid.held)
 
   pub made_get : (told : Told) (block : ℕ) → action_of step ≡ actions.Get block → block < applications → (unit : UnitView) (queue : JobQueue) (store next_store : Store B b) → ReadsSo c block store next_store told
       → MakesStep c step told unit unit queue queue store next_store
   made_get told block is below unit queue store next_store reads = λ first found begun made mid.
-      midway_more c step told (actions.Get block) is first found begun made unit unit queue queue store next_store mid mid.jobs (reads.living first (journal_of made) (deeds_of made) unit mid.living) mid.queued (reads.is, refl) reads.follows
-      (reads.caused begun.device.faults (deeds_of made) mid.caused)
+      midway_more c step told (actions.Get block) is first found begun made unit unit queue queue store next_store mid mid.jobs (reads.living first (journal_of made) (answers_of_made made) unit mid.living) mid.queued (reads.is, refl) reads.follows
+      (reads.caused begun.device.faults (answers_of_made made) mid.caused)
       (held_deed found (deeds_made made) (step, told) (driver_of store).value (driver_of next_store).value (λ number small. reads.values (application_number number))
       (read_tells_none found mid.jobs (deeds_made made) (driver_of store).value block below told reads.found) mid.jobs
       (λ held. subst (λ (does : Action). GetsBy found mid.jobs (deeds_made made) does told) (sym is) (read_gets found mid.jobs (deeds_made made) (driver_of store).value block below told reads.found held)) mid.held)
 
   pub made_drain : (written failed : ℕ) → action_of step ≡ actions.Drain → (unit : UnitView) (queue next_queue : JobQueue) (store next_store : Store B b)
       → ((held spare : Generation) → IsRunning c held spare store → IsRunning c held spare next_store) → Follows (driver_of store) (driver_of next_store)
-      → ((jobs : History) → standing.Stands c.blocks jobs queue → HasDrained c jobs written failed next_queue store next_store)
+      → ((jobs : History) → standing.QueueStands c.blocks jobs queue → HasDrained c jobs written failed next_queue store next_store)
       → MakesStep c step (answers.Drained written failed) unit unit queue next_queue store next_store
   made_drain written failed is unit queue next_queue store next_store running follows drained = λ first found begun made mid.
       let told : Told = answers.Drained written failed in
       let done = drained mid.jobs mid.queued in
       let living = mid.living in
-      let held = done.carries.held found (jobs_told (deeds_of made)) (deeds_made made) mid.held in
+      let held = done.carries.held found (jobs_told (answers_of_made made)) (deeds_made made) mid.held in
       midway_more c step told actions.Drain is first found begun made unit unit queue next_queue store next_store mid done.after
       (record {
         stands = living.stands;
         held = living.held;
         spare = living.spare;
         running = running living.held living.spare living.running;
-        kept = kept_other c first (journal_of made) (deeds_of made) living.held living.spare living.kept told tt;
+        kept = kept_other c first (journal_of made) (answers_of_made made) living.held living.spare living.kept told tt;
       })
       done.stands done.drains follows
-      (subst (λ n. IsCaused c begun.device.faults (answers.Drained written n ∷ deeds_of made) next_store) (omega arith)
-      (done.carries.caused begun.device.faults (deeds_of made) 0 written 0 (caused_first c store begun.device.faults (deeds_of made) mid.caused)))
+      (subst (λ n. IsCaused c begun.device.faults (answers.Drained written n ∷ answers_of_made made) next_store) (omega arith)
+      (done.carries.caused begun.device.faults (answers_of_made made) 0 written 0 (caused_first c store begun.device.faults (answers_of_made made) mid.caused)))
       (record {
         done = held.done;
         held = held.held;

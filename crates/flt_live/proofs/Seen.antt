@@ -17,7 +17,7 @@ use Rattle.flt_life_model.proofs.ByAction.{touches_by, touches_store}
 use Rattle.flt_lives.proofs.Deeds.{deeds_more}
 use Rattle.flt_turn.specs.declared.vault.Entry.{Entry}
 use Rattle.flt_queue.specs.declared.job.QueueOp.{QueueOp}
-use Rattle.flt_live.specs.Made.{Made, deeds_made, deeds_of, with_deed_by}
+use Rattle.flt_live.specs.Made.{Made, deeds_made, answers_of_made, with_deed_by}
 use Rattle.flt_live.specs.Span.{seen_as}
 
 abbrev parts_made : List Made → List (PartOf Step)
@@ -73,7 +73,7 @@ deeds_seen (one ∷ earlier) =
 pub deeds_are : (boot : Boot) (made : List Made) (jobs : History) → chain.deeds_of (seen_as boot made jobs) ≡ deeds_made made
 deeds_are boot made jobs = ap reverse (deeds_seen made) ∙ reverse-reverse (deeds_made made)
 
-pub told_are : (boot : Boot) (made : List Made) (jobs : History) → chain.told_of (seen_as boot made jobs) ≡ deeds_of made
+pub told_are : (boot : Boot) (made : List Made) (jobs : History) → chain.told_of (seen_as boot made jobs) ≡ answers_of_made made
 told_are boot made jobs = ap (map (λ (d : Deed). d.1)) (deeds_are boot made jobs)
 
 pub queue_is : (boot : Boot) (made : List Made) (jobs : History) → chain.queue_of (seen_as boot made jobs) ≡ jobs

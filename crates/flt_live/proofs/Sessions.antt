@@ -7,7 +7,7 @@ use Rattle.flt_store_model.specs.Holding.{Generation, IsSound}
 use Rattle.flt_store_model.specs.Laws.{IsGiven}
 use Rattle.flt_store_model.proofs.ImageLaws.{held_stands, spare_stands}
 use Rattle.flt_life_model.specs.Chain.{LifeView}
-use Rattle.flt_life_model.specs.Laws.{BeginsNoOlder, IsNoOlder, IsSoundIn, acknowledged_in, generation_of_life, last_acknowledged, number_in}
+use Rattle.flt_life_model.specs.Laws.{BeginsNoOlder, IsNoOlder, IsSoundIn, acknowledged_in, generation_of_life, last_acknowledged, number_acknowledged}
 use Rattle.flt_life_model.specs.Moment.{moment_of}
 use Rattle.flt_life_model.specs.declared.life.Boot.{Boot}
 use Rattle.flt_life_model.specs.declared.life.Boot.TheVariants as boots
@@ -58,7 +58,7 @@ module _ (c : Config) (given : IsGiven c) where
       let known = last_acknowledged c (views_in earlier) in
       let left = leaves_no_older c given held_stands spare_stands number known (moment_of last.before) last.begun.device.faults so_far.0 (moment_of last.last) last.view last.boot whole.is_life in
       let named = boot_of_view c last.boot last.view whole.between last.after _ whole.went_on in
-      let seen = subst (λ (b : Boot). IsNoOlder c (number_in last.view.journal number) (generation_of_life c b last.view.journal known) (moment_of last.last)) (sym named) left in
+      let seen = subst (λ (b : Boot). IsNoOlder c (number_acknowledged last.view.journal number) (generation_of_life c b last.view.journal known) (moment_of last.last)) (sym named) left in
       let is = same_older (acknowledged_in (views_in (last ∷ earlier))) (last_acknowledged c (views_in (last ∷ earlier))) last.last life.before (found refl) seen in
       (is, begins_on _ _ life.before life.begun life.boot is span.is, so_far)
 

@@ -29,9 +29,9 @@ use Rattle.flt_live.specs.declared.living.LifeEnd.{LifeEnd}
 use Rattle.flt_live.specs.declared.living.LifeEnd.TheVariants.{Ended, Memory, Power, Unread, Unwritten}
 use Rattle.flt_live.specs.Ahead.{ahead_with}
 use Rattle.flt_live.specs.Begun.{BeginsOn, IsBegunBy, without_steps}
-use Rattle.flt_live.specs.Heard.{Says, Talk}
+use Rattle.flt_live.specs.Heard.{SaysLine, Talk}
 use Rattle.flt_live.specs.Lived.{GoesOnBy, IsLifeLived, TakesLines, UnlessLost}
-use Rattle.flt_live.specs.Made.{IsMidway, Made, deeds_made, deeds_of, journal_of}
+use Rattle.flt_live.specs.Made.{IsMidway, Made, deeds_made, answers_of_made, journal_of}
 use Rattle.flt_live.specs.Session.{SourceFailed}
 use Rattle.flt_live.specs.Shelf.{GivesBack}
 use Rattle.flt_live.specs.Span.{ArePassed, AreSpans, BeginsSo, IsFoundBehind, IsSpan, IsWholeLife, LifeSpan, LivesPassed, SameBlocks, WentOn, next_life, seen_as}
@@ -69,7 +69,7 @@ module _ {B : Type 0} {b : Ghosts B} (c : Config) (before : BlocksState) (number
 
   caused : AreCaused c (moment_of before) (moment_of (driver_of last)) (told_of seen)
   caused = subst (AreCaused c (moment_of before) (moment_of (driver_of last))) (sym (told_are (boots.Started number state) made mid.jobs))
-      (are_caused c (driver_of begun).device.faults (deeds_of made) last (moment_of before) begins.counts mid.caused)
+      (are_caused c (driver_of begun).device.faults (answers_of_made made) last (moment_of before) begins.counts mid.caused)
 
   applications_kept : KeepsApplications (moment_of before) (moment_of (driver_of last)) seen
   applications_kept = record {
@@ -121,7 +121,7 @@ module _ {B : Type 0} {b : Ghosts B} (c : Config) (before : BlocksState) where
 
 module _ {B : Type 0} {b : Ghosts B} (c : Config) (number status : ℕ) (before : BlocksState) (last : Store B b) (unit : UnitView) (from after : Talk) where
   abbrev pub Said : LifeEnd → Boot → Store B b → Type 0
-  Said end boot begun = (t : Talk) × Says (boot_line number boot) from t × GoesOnBy c boot before.value begun last unit t after end
+  Said end boot begun = (t : Talk) × SaysLine (boot_line number boot) from t × GoesOnBy c boot before.value begun last unit t after end
 
   abbrev pub seen_by : (end : LifeEnd) (boot : Boot) (begun : Store B b) → UnlessLost end (Said end boot begun) → LifeView
   seen_by Power boot begun said = view_by c before begun last unit said.0 after Power boot said.2
@@ -196,7 +196,7 @@ module _ {B : Type 0} {b : Ghosts B} (c : Config) (number status : ℕ) (before 
 
   pub serves_on : end ≡ Power → ServesOn before (driver_of last)
   serves_on power =
-      let said = subst (λ (e : LifeEnd). UnlessLost e ((t : Talk) × Says (boot_line number lived.boot) from t × GoesOnBy c lived.boot before.value lived.begun last unit t after e)) power lived.said in
+      let said = subst (λ (e : LifeEnd). UnlessLost e ((t : Talk) × SaysLine (boot_line number lived.boot) from t × GoesOnBy c lived.boot before.value lived.begun last unit t after e)) power lived.said in
       serves_by lived.boot said.0 said.2
 
 -- ---- one life more

@@ -21,29 +21,29 @@ abbrev pub ahead_of : Option (List ℕ) → LineReader → Option (List ℕ)
 ahead_of left reader = ahead_with (pulled reader) left
 
 -- A byte was taken, or none where none was ahead.
-abbrev pub Takes : Option (List ℕ) → Option (List ℕ) → Option ℕ → Type 0
-Takes before after None = Keeps before after × IsAtEnd after
-Takes before after (Some byte) = Consumes before after (byte ∷ [])
+abbrev pub TakesByte : Option (List ℕ) → Option (List ℕ) → Option ℕ → Type 0
+TakesByte before after None = Keeps before after × IsAtEnd after
+TakesByte before after (Some byte) = Consumes before after (byte ∷ [])
 
 -- What a line took beside its bytes.
-abbrev pub end_of : Line → List ℕ
-end_of Fed = 10 ∷ []
-end_of Cut = []
-end_of Ended = []
+abbrev pub line_end_of : Line → List ℕ
+line_end_of Fed = 10 ∷ []
+line_end_of Cut = []
+line_end_of Ended = []
 
 -- A line has a byte where it is cut, and none where there is none; each line but the last ends by a line feed.
-abbrev pub IsEnd : Line → List ℕ → Option (List ℕ) → Type 0
-IsEnd Fed whole after = Unit {0}
-IsEnd Cut whole after = (0 < length whole) × IsAtEnd after
-IsEnd Ended whole after = (whole ≡ []) × IsAtEnd after
+abbrev pub IsLineEnd : Line → List ℕ → Option (List ℕ) → Type 0
+IsLineEnd Fed whole after = Unit {0}
+IsLineEnd Cut whole after = (0 < length whole) × IsAtEnd after
+IsLineEnd Ended whole after = (whole ≡ []) × IsAtEnd after
 
 -- A line was taken, without a line feed in it, of which the first 514 bytes are kept.
 pub record TakesLine (before after : Option (List ℕ)) (ended : Line) (kept : List ℕ) : Type 0 where
   pub whole : List ℕ
   pub one : All (λ byte. byte ≢ 10) whole
   pub is : kept ≡ take 514 whole
-  pub taken : Consumes before after (whole ++ end_of ended)
-  pub end : IsEnd ended whole after
+  pub taken : Consumes before after (whole ++ line_end_of ended)
+  pub end : IsLineEnd ended whole after
 
 -- The last line has a byte, or there is none.
 abbrev pub IsLast : Line → List ℕ → Type 0
@@ -52,10 +52,10 @@ IsLast Cut kept = 0 < length kept
 IsLast Ended kept = kept ≡ []
 
 -- The text of a line of which this is kept: without a carriage return before its line feed.
-abbrev pub text_of : Line → List ℕ → List ℕ
-text_of Fed kept = strip_carriage_return kept
-text_of Cut kept = kept
-text_of Ended kept = kept
+abbrev pub kept_text : Line → List ℕ → List ℕ
+kept_text Fed kept = strip_carriage_return kept
+kept_text Cut kept = kept
+kept_text Ended kept = kept
 
 -- The same of an ear: what it pulled and did not take, what is ahead of it, and what it keeps of the line that it read last.
 abbrev pub pulled_in : Ear → List ℕ

@@ -7,7 +7,7 @@ use Rattle.flt_queue.specs.declared.job.Job.{Job}
 use Rattle.flt_queue.specs.declared.job.QueueOp.TheVariants.{Take, Done}
 use Rattle.flt_queue.specs.declared.queue.JobQueue.{JobQueue}
 use Rattle.flt_queue.specs.Queue.{History}
-use Rattle.flt_queue.specs.Stands.{Stands}
+use Rattle.flt_queue.specs.Stands.{QueueStands}
 use Rattle.flt_turn.specs.Sums.{one_if}
 use Rattle.flt_store.specs.declared.store.Store.{Store}
 use Rattle.flt_store.specs.Store.{driver_of}
@@ -18,34 +18,34 @@ use Rattle.flt_life_model.specs.SoFar.{IsCaused}
 use Rattle.flt_life_model.specs.declared.answer.StepAnswer.TheVariants as answers
 
 -- A job that was taken, and whether it was written.
-abbrev pub Drained : Type 0
-Drained = Job × Bool
+abbrev pub TakenJob : Type 0
+TakenJob = Job × Bool
 
 -- The calls of the queue once these jobs were taken, each with the note of what became of it.
-abbrev pub behind_jobs : History → List Drained → History
+abbrev pub behind_jobs : History → List TakenJob → History
 behind_jobs before [] = before
 behind_jobs before (drained ∷ earlier) = Done drained.0.block drained.1 ∷ Take ∷ behind_jobs before earlier
 
 -- Each is the job that was to be taken then.
-abbrev pub AreTaken : History → List Drained → Type 0
+abbrev pub AreTaken : History → List TakenJob → Type 0
 AreTaken before [] = Unit {0}
 AreTaken before (drained ∷ earlier) = (job_behind (behind_jobs before earlier) ≡ Some drained.0) × AreTaken before earlier
 
 -- How many were written, and how many could not be.
-abbrev pub written_in : List Drained → ℕ
+abbrev pub written_in : List TakenJob → ℕ
 written_in jobs = sum_by (λ d. one_if d.1) jobs
 
-abbrev pub failed_in : List Drained → ℕ
+abbrev pub failed_in : List TakenJob → ℕ
 failed_in jobs = sum_by (λ d. one_if (not d.1)) jobs
 
 -- A drain ends with the 32nd job, or when no job waits.
-abbrev pub IsDrained : History → List Drained → History → Type 0
+abbrev pub IsDrained : History → List TakenJob → History → Type 0
 IsDrained before jobs after = ((length jobs ≡ 32) × (after ≡ behind_jobs before jobs))
     ⊎ ((length jobs < 32) × (job_behind (behind_jobs before jobs) ≡ None) × (after ≡ Take ∷ behind_jobs before jobs))
 
 -- A drain took these calls of the queue to those.
 pub record Drains (before : History) (written failed : ℕ) (after : History) : Type 0 where
-  pub jobs : List Drained
+  pub jobs : List TakenJob
   pub taken : AreTaken before jobs
   pub written_is : written ≡ written_in jobs
   pub failed_is : failed ≡ failed_in jobs
@@ -61,26 +61,26 @@ module _ {B : Type 0} {b : Ghosts B} where
 
   -- The next job was taken, and it was noted whether it was written; or none waits.
   abbrev pub IsJobTaken : Config → History → Option Bool → JobQueue → (store now : Store B b) → Type 0
-  IsJobTaken c before None queue store now = (job_behind before ≡ None) × Stands c.blocks (Take ∷ before) queue
+  IsJobTaken c before None queue store now = (job_behind before ≡ None) × QueueStands c.blocks (Take ∷ before) queue
       × CarriesJobs c before (Take ∷ before) 0 0 store now
   IsJobTaken c before (Some written) queue store now = (job : Job) × (job_behind before ≡ Some job)
-      × Stands c.blocks (Done job.block written ∷ Take ∷ before) queue
+      × QueueStands c.blocks (Done job.block written ∷ Take ∷ before) queue
       × CarriesJobs c before (Done job.block written ∷ Take ∷ before) 1 (one_if (not written)) store now
 
   -- A drain took so many jobs so far.
   pub record IsDraining (c : Config) (before : History) (count written failed : ℕ) (queue : JobQueue) (store now : Store B b) : Type 0 where
-    pub jobs : List Drained
+    pub jobs : List TakenJob
     pub count_is : length jobs ≡ count
     pub taken : AreTaken before jobs
     pub written_is : written ≡ written_in jobs
     pub failed_is : failed ≡ failed_in jobs
     pub all : written + failed ≡ count
-    pub stands : Stands c.blocks (behind_jobs before jobs) queue
+    pub stands : QueueStands c.blocks (behind_jobs before jobs) queue
     pub carries : CarriesJobs c before (behind_jobs before jobs) count failed store now
 
   -- A drain took the queue from these calls to others, and carried on the store.
   pub record HasDrained (c : Config) (before : History) (written failed : ℕ) (queue : JobQueue) (store now : Store B b) : Type 0 where
     pub after : History
     pub drains : Drains before written failed after
-    pub stands : Stands c.blocks after queue
+    pub stands : QueueStands c.blocks after queue
     pub carries : CarriesJobs c before after (written + failed) failed store now

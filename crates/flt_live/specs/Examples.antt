@@ -10,9 +10,9 @@ use Rattle.flt_life_model.specs.declared.life.Boot.TheVariants as boots
 use Rattle.flt_live.specs.declared.living.LifeEnd.TheVariants.{Power}
 use Rattle.flt_live.specs.declared.reader.Line.TheVariants.{Fed, Cut, Ended}
 use Rattle.flt_live.specs.declared.line.Due.TheVariants as due
-use Rattle.flt_live.specs.Ahead.{ahead_with, text_of}
+use Rattle.flt_live.specs.Ahead.{ahead_with, kept_text}
 use Rattle.flt_live.specs.Due.{due_at}
-use Rattle.flt_live.specs.Heard.{AreHeard, Heard, Talk, answers_of, bytes_of}
+use Rattle.flt_live.specs.Heard.{AreHeard, Heard, Talk, answer_bytes, heard_bytes}
 use Rattle.flt_live.specs.Made.{Made}
 use Rattle.flt_live.specs.Session.{Closed, Other, Refused, SessionEnd, Unread, Unreadable, session_in, status_due}
 use Rattle.flt_live.specs.Session as sessions
@@ -30,15 +30,15 @@ abbrev pub two_lines : List Heard
 two_lines = cut (35 ∷ 120 ∷ []) (10 ∷ []) ∷ fed [] (10 ∷ []) ∷ []
 
 pub record SayNothing (c : Config) : Type 0 where
-  pub empty : due_at c (text_of Fed []) ≡ due.Nothing
+  pub empty : due_at c (kept_text Fed []) ≡ due.Nothing
   pub comment : due_at c (35 ∷ 120 ∷ []) ≡ due.Nothing
 
 -- They make no step; each is answered by an empty line. A line that is not answered, one that is answered twice, and the end of the source
 -- are no lines that were heard so.
 pub record LinesAreHeard (c : Config) : Type 0 where
   pub two : AreHeard c two_lines []
-  pub taken : bytes_of two_lines ≡ 10 ∷ 35 ∷ 120 ∷ []
-  pub written : answers_of two_lines ≡ 10 ∷ 10 ∷ []
+  pub taken : heard_bytes two_lines ≡ 10 ∷ 35 ∷ 120 ∷ []
+  pub written : answer_bytes two_lines ≡ 10 ∷ 10 ∷ []
   pub silent : (made : List Made) → ¬ AreHeard c (fed [] [] ∷ []) made
   pub twice : (made : List Made) → ¬ AreHeard c (fed [] (10 ∷ 10 ∷ []) ∷ []) made
   pub at_end : (made : List Made) → ¬ AreHeard c (record { whole = []; ended = Ended; answer = 10 ∷ [] } ∷ []) made

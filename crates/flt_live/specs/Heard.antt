@@ -8,7 +8,7 @@ use Rattle.flt_live.specs.declared.line.Due.{Due}
 use Rattle.flt_live.specs.declared.line.Due.TheVariants as due
 use Rattle.flt_live.specs.declared.reader.Line.{Line}
 use Rattle.flt_live.specs.declared.reader.Line.TheVariants.{Fed, Cut, Ended}
-use Rattle.flt_live.specs.Ahead.{end_of, text_of}
+use Rattle.flt_live.specs.Ahead.{line_end_of, kept_text}
 use Rattle.flt_live.specs.Due.{due_at, refusal_line}
 use Rattle.flt_live.specs.Made.{Made}
 
@@ -29,7 +29,7 @@ pub record IsLater (before after : Talk) : Type 0 where
   pub write : before.write_faults ≤ after.write_faults
 
 -- A line was written, and nothing was read.
-pub record Says (line : List ℕ) (before after : Talk) : Type 0 where
+pub record SaysLine (line : List ℕ) (before after : Talk) : Type 0 where
   pub written : Appends before.held after.held line
   pub ahead : after.ahead ≡ before.ahead
   pub read_faults : after.read_faults ≡ before.read_faults
@@ -42,17 +42,17 @@ pub record Heard : Type 0 where
 
 -- Its text, as far as it is kept.
 abbrev pub text_in : Heard → List ℕ
-text_in heard = text_of heard.ended (take 514 heard.whole)
+text_in heard = kept_text heard.ended (take 514 heard.whole)
 
 -- The bytes that lines took.
-abbrev pub bytes_of : List Heard → List ℕ
-bytes_of [] = []
-bytes_of (heard ∷ earlier) = bytes_of earlier ++ (heard.whole ++ end_of heard.ended)
+abbrev pub heard_bytes : List Heard → List ℕ
+heard_bytes [] = []
+heard_bytes (heard ∷ earlier) = heard_bytes earlier ++ (heard.whole ++ line_end_of heard.ended)
 
 -- What was written for them.
-abbrev pub answers_of : List Heard → List ℕ
-answers_of [] = []
-answers_of (heard ∷ earlier) = answers_of earlier ++ heard.answer
+abbrev pub answer_bytes : List Heard → List ℕ
+answer_bytes [] = []
+answer_bytes (heard ∷ earlier) = answer_bytes earlier ++ heard.answer
 
 -- A line has no line feed in it, and a byte where none ended it.
 abbrev pub IsOneLine : Line → List ℕ → Type 0
@@ -61,14 +61,14 @@ IsOneLine Cut whole = All (λ byte. byte ≢ 10) whole × (0 < length whole)
 IsOneLine Ended whole = ⊥
 
 -- What is written for a line that is no `power`, and the steps that are made with it.
-abbrev pub ComesTo : Due → List ℕ → (before after : List Made) → Type 0
-ComesTo due.Nothing line before after = (line ≡ 10 ∷ []) × (after ≡ before)
-ComesTo (due.Refuse refusal) line before after = (line ≡ refusal_line refusal) × (after ≡ before)
-ComesTo (due.Make step) line before after = (told : Told) × (line ≡ step_line step told) × (after ≡ (step, told) ∷ before)
-ComesTo due.Power line before after = ⊥
+abbrev pub LineComesTo : Due → List ℕ → (before after : List Made) → Type 0
+LineComesTo due.Nothing line before after = (line ≡ 10 ∷ []) × (after ≡ before)
+LineComesTo (due.Refuse refusal) line before after = (line ≡ refusal_line refusal) × (after ≡ before)
+LineComesTo (due.Make step) line before after = (told : Told) × (line ≡ step_line step told) × (after ≡ (step, told) ∷ before)
+LineComesTo due.Power line before after = ⊥
 
 -- Each of these lines was answered by itself, and these are the steps that they made.
 abbrev pub AreHeard : Config → List Heard → List Made → Type 0
 AreHeard c [] made = made ≡ []
 AreHeard c (heard ∷ earlier) made =
-    (before : List Made) × AreHeard c earlier before × IsOneLine heard.ended heard.whole × ComesTo (due_at c (text_in heard)) heard.answer before made
+    (before : List Made) × AreHeard c earlier before × IsOneLine heard.ended heard.whole × LineComesTo (due_at c (text_in heard)) heard.answer before made

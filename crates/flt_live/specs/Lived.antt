@@ -25,7 +25,7 @@ use Rattle.flt_live.specs.declared.living.LifeEnd.{LifeEnd}
 use Rattle.flt_live.specs.declared.living.LifeEnd.TheVariants.{Power, Ended, Unread, Unwritten, Memory}
 use Rattle.flt_live.specs.Begun.{BeginsOn}
 use Rattle.flt_live.specs.Due.{due_at}
-use Rattle.flt_live.specs.Heard.{AreHeard, Heard, IsLater, IsOneLine, Says, Talk, answers_of, bytes_of, text_in}
+use Rattle.flt_live.specs.Heard.{AreHeard, Heard, IsLater, IsOneLine, SaysLine, Talk, answer_bytes, heard_bytes, text_in}
 use Rattle.flt_live.specs.Made.{IsMidway, Made}
 
 -- How a life ends whose line was not written.
@@ -52,7 +52,7 @@ pub record IsCutShort (c : Config) (text : List ℕ) (before after : Talk) : Typ
   pub heard : List Heard
   pub made : List Made
   pub are : AreHeard c heard made
-  pub front : AppendsFront before.held after.held (text ++ answers_of heard)
+  pub front : AppendsFront before.held after.held (text ++ answer_bytes heard)
 
 -- A life ends for its sink only if the count of the sink's faults rose.
 abbrev pub IsLostFor : ℕ → ℕ → LifeEnd → Type 0
@@ -62,8 +62,8 @@ IsLostFor before after _ = Unit {0}
 -- Why a life ended behind these lines, and that it took no byte more: the next one is a `power`; there is no more; or the source failed.
 abbrev pub EndsBy : Config → List Heard → (before after : Talk) → LifeEnd → Type 0
 EndsBy c heard before after Power = (last : Heard) × IsOneLine last.ended last.whole × (due_at c (text_in last) ≡ due.Power)
-    × Consumes before.ahead after.ahead (bytes_of (last ∷ heard))
-EndsBy c heard before after Ended = Consumes before.ahead after.ahead (bytes_of heard) × IsAtEnd after.ahead
+    × Consumes before.ahead after.ahead (heard_bytes (last ∷ heard))
+EndsBy c heard before after Ended = Consumes before.ahead after.ahead (heard_bytes heard) × IsAtEnd after.ahead
 EndsBy c heard before after Unread = Rose before.read_faults after.read_faults
 EndsBy c heard before after Unwritten = Unit {0}
 EndsBy c heard before after Memory = Unit {0}
@@ -79,7 +79,7 @@ pub record TakesDarkLines (c : Config) (before after : Talk) (end : LifeEnd) : T
   pub made : List Made
   pub are : AreHeard c heard made
   pub dark : AreDark made
-  pub written : Appends before.held after.held (answers_of heard)
+  pub written : Appends before.held after.held (answer_bytes heard)
   pub ended : EndsBy c heard before after end
 
 -- How a dark life took its lines.
@@ -98,7 +98,7 @@ module _ {B : Type 0} {b : Ghosts B} where
     pub queue : JobQueue
     pub are : AreHeard c heard made
     pub midway : IsMidway c first found begun made unit queue store
-    pub written : Appends before.held after.held (answers_of heard)
+    pub written : Appends before.held after.held (answer_bytes heard)
     pub ended : EndsBy c heard before after end
 
   -- How lines were taken, from a life that had just begun: to its end, unless it was lost; then a front of their answers was written.
@@ -124,7 +124,7 @@ module _ {B : Type 0} {b : Ghosts B} where
     pub status_is : status ≡ status_by boot
     pub begun : Store B b
     pub is : BeginsOn c before boot begun
-    pub said : UnlessLost end ((between : Talk) × Says (boot_line number boot) from between × GoesOnBy c boot before.value begun last unit between after end)
+    pub said : UnlessLost end ((between : Talk) × SaysLine (boot_line number boot) from between × GoesOnBy c boot before.value begun last unit between after end)
     pub lost : IsLostFor from.write_faults after.write_faults end
     pub cut : IfLost end (IsCutShort c (boot_line number boot) from after)
     pub later : IsLater from after

@@ -69,8 +69,8 @@ deeds_made [] = []
 deeds_made (made ∷ earlier) = with_deed_by (action_of made.0) made.0 made.1 (deeds_made earlier)
 
 -- Their answers.
-abbrev pub deeds_of : List Made → List Told
-deeds_of made = answers_of (deeds_made made)
+abbrev pub answers_of_made : List Made → List Told
+answers_of_made made = answers_of (deeds_made made)
 
 -- The answer is the machine's to a call behind these.
 abbrev pub IsReply : Start → Journal → Op → Told → Type 0
@@ -122,12 +122,12 @@ module _ {B : Type 0} {b : Ghosts B} where
   -- before it.
   pub record IsMidway (c : Config) (first : Generation) (found : ℕ → Content) (begun : BlocksState) (made : List Made) (unit : UnitView) (queue : JobQueue) (store : Store B b) : Type 0 where
     pub jobs : History
-    pub living : IsLiving c first (journal_of made) (deeds_of made) unit store
-    pub queued : standing.Stands c.blocks jobs queue
+    pub living : IsLiving c first (journal_of made) (answers_of_made made) unit store
+    pub queued : standing.QueueStands c.blocks jobs queue
     pub answered : AreAnswered (start_from c first.state) made jobs
     pub follows : Follows begun (driver_of store)
-    pub caused : IsCaused c begun.device.faults (deeds_of made) store
-    pub held : AreHeld found jobs (jobs_told (deeds_of made)) (deeds_made made) (driver_of store).value
+    pub caused : IsCaused c begun.device.faults (answers_of_made made) store
+    pub held : AreHeld found jobs (jobs_told (answers_of_made made)) (deeds_made made) (driver_of store).value
 
   -- One step more was made, with this answer.
   abbrev pub MakesStep : Config → Step → Told → (unit next_unit : UnitView) → (queue next_queue : JobQueue) → (store next_store : Store B b) → Type 0

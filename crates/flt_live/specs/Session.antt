@@ -66,8 +66,8 @@ status_due Unread = 3
 status_due (Ended boot) = status_by boot
 
 -- A script with these lives does nothing: there is one, without a step.
-abbrev pub IsIdle : List (List (PartOf Step)) → Type 0
-IsIdle lives = lives ≡ [] ∷ []
+abbrev pub AreIdleLives : List (List (PartOf Step)) → Type 0
+AreIdleLives lives = lives ≡ [] ∷ []
 
 -- The source of the lines failed in the last of these lives.
 pub record SourceFailed (tells : Bool) (c : Config) (before after : Talk) : Type 0 where
@@ -90,10 +90,10 @@ other_script_line = codes "script other" ++ 10 ∷ []
 abbrev pub IsEndOf : Bool → ScriptContent → (before after : Talk) → SessionEnd → Type 0
 IsEndOf tells script before after Unreadable = ⊥
 IsEndOf tells script before after (Refused fault) = ⊥
-IsEndOf tells script before after Other = ¬ IsIdle script.lives × Appends before.held after.held other_script_line
-IsEndOf tells script before after (Closed fault) = IsIdle script.lives × IsClosed tells script.config before after
-IsEndOf tells script before after Unread = IsIdle script.lives × SourceFailed tells script.config before after
-IsEndOf tells script before after (Ended boot) = IsIdle script.lives × AreSpans tells script.config before after boot lives.Ended
+IsEndOf tells script before after Other = ¬ AreIdleLives script.lives × Appends before.held after.held other_script_line
+IsEndOf tells script before after (Closed fault) = AreIdleLives script.lives × IsClosed tells script.config before after
+IsEndOf tells script before after Unread = AreIdleLives script.lives × SourceFailed tells script.config before after
+IsEndOf tells script before after (Ended boot) = AreIdleLives script.lives × AreSpans tells script.config before after boot lives.Ended
 
 -- Memory ran out, or the sink failed.
 abbrev pub IsLostBy : (before after : Talk) → ℕ → Type 0
@@ -112,27 +112,27 @@ IsCutBy tells script before after =
     IsCutInALife tells script.config before after ⊎ IsClosed tells script.config before after ⊎ AppendsFront before.held after.held other_script_line
 
 -- An end of this cause, with its status; or the session was cut off.
-pub record IsEnded (Cause : SessionEnd → Type 0) (status : ℕ) : Type 0 where
+pub record IsSessionEnded (Cause : SessionEnd → Type 0) (status : ℕ) : Type 0 where
   pub end : SessionEnd
   pub cause : Cause end
   pub status_is : status ≡ status_due end
 
 abbrev pub EndsFor : (SessionEnd → Type 0) → Type 0 → (before after : Talk) → ℕ → Type 0
-EndsFor Cause Cut before after status = IsEnded Cause status ⊎ (IsLostBy before after status × Cut)
+EndsFor Cause Cut before after status = IsSessionEnded Cause status ⊎ (IsLostBy before after status × Cut)
 
 -- The bytes of the configuration are a script, of which this holds.
 abbrev pub IfScript : List DidUse → Reading → (ScriptContent → Type 0) → Type 0
 IfScript dids config fact = (script : ScriptContent) × IsAtEnd config.left_after × AreScript dids config.left script × fact script
 
 -- Why a session ends so, and what was written.
-abbrev pub HasCause : Bool → List DidUse → Reading → (before after : Talk) → SessionEnd → Type 0
-HasCause tells dids config before after Unreadable = Rose config.faults config.faults_after × Appends before.held after.held unread_line
-HasCause tells dids config before after (Refused fault) = HasLostRead config.left config.left_after × AreNoScript dids config.left fault
+abbrev pub SessionHasCause : Bool → List DidUse → Reading → (before after : Talk) → SessionEnd → Type 0
+SessionHasCause tells dids config before after Unreadable = Rose config.faults config.faults_after × Appends before.held after.held unread_line
+SessionHasCause tells dids config before after (Refused fault) = HasLostRead config.left config.left_after × AreNoScript dids config.left fault
     × Appends before.held after.held (script_fault_line fault)
-HasCause tells dids config before after Other = IfScript dids config (λ script. IsEndOf tells script before after Other)
-HasCause tells dids config before after (Closed fault) = IfScript dids config (λ script. IsEndOf tells script before after (Closed fault))
-HasCause tells dids config before after Unread = IfScript dids config (λ script. IsEndOf tells script before after Unread)
-HasCause tells dids config before after (Ended boot) = IfScript dids config (λ script. IsEndOf tells script before after (Ended boot))
+SessionHasCause tells dids config before after Other = IfScript dids config (λ script. IsEndOf tells script before after Other)
+SessionHasCause tells dids config before after (Closed fault) = IfScript dids config (λ script. IsEndOf tells script before after (Closed fault))
+SessionHasCause tells dids config before after Unread = IfScript dids config (λ script. IsEndOf tells script before after Unread)
+SessionHasCause tells dids config before after (Ended boot) = IfScript dids config (λ script. IsEndOf tells script before after (Ended boot))
 
 -- What was written in a session that was cut off: a front of the line that says why no life began, or what is written with a script.
 abbrev pub IsCutWith : Bool → List DidUse → Reading → (before after : Talk) → Type 0
@@ -144,7 +144,7 @@ IsCutWith tells dids config before after =
 -- A session by its configuration.
 abbrev pub IsSession : Bool → List DidUse → Reading → (before after : Talk) → ℕ → Type 0
 IsSession tells dids config before after status =
-    EndsFor (HasCause tells dids config before after) (IsCutWith tells dids config before after) before after status
+    EndsFor (SessionHasCause tells dids config before after) (IsCutWith tells dids config before after) before after status
 
 -- Why lives ended for something else than the end of the source.
 abbrev pub HasFailed : Bool → Config → (before after : Talk) → End → Type 0

@@ -19,7 +19,7 @@ use Rattle.flt_live.specs.declared.living.LifeEnd.{LifeEnd}
 use Rattle.flt_live.specs.declared.living.LifeEnd.TheVariants.{Power, Ended}
 use Rattle.flt_live.specs.Ahead.{ahead_with}
 use Rattle.flt_live.specs.Begun.{without_steps}
-use Rattle.flt_live.specs.Heard.{AreHeard, Heard, IsLater, Says, Talk, answers_of}
+use Rattle.flt_live.specs.Heard.{AreHeard, Heard, IsLater, SaysLine, Talk, answer_bytes}
 use Rattle.flt_live.specs.Lived.{EndsBy, IfLost, IsCutShort, IsLostFor, TakesDarkLines, UnlessLost}
 use Rattle.flt_live.specs.Made.{AreAnswered, Made, journal_of}
 
@@ -68,7 +68,7 @@ pub record TookLines (c : Config) (boot : Boot) (start : Start) (view : LifeView
   pub are : AreHeard c heard made
   pub answered : AreAnswered start made jobs
   pub view_is : view ≡ seen_as boot made jobs
-  pub written : Appends from.held after.held (answers_of heard)
+  pub written : Appends from.held after.held (answer_bytes heard)
   pub ended : EndsBy c heard from after end
 
 -- What follows the first line of a life, by how it began. A dark one makes no step, and a refused one reads nothing.
@@ -81,7 +81,7 @@ WentOn c (boots.Refused fault) view from after end =
 -- A life whose lines were written: its first line, and then one for each line that was read; and between its two ends it is a life of a run.
 pub record IsWholeLife (c : Config) (life : LifeSpan) (end : LifeEnd) : Type 0 where
   pub between : Talk
-  pub says : Says (boot_line life.number life.boot) life.from between
+  pub says : SaysLine (boot_line life.number life.boot) life.from between
   pub went_on : WentOn c life.boot life.view between life.after end
   pub is_life : IsLifeBegunBy c (moment_of life.before) (moment_of life.last) life.begun.device.faults life.view life.boot
 

@@ -18,7 +18,7 @@ pub struct Ear {
 }
 
 impl Ear {
-    ghost use Rattle.flt_live.specs.Ahead.{TakesLine, ahead_in, kept_in, pulled_in, text_of};
+    ghost use Rattle.flt_live.specs.Ahead.{TakesLine, ahead_in, kept_in, pulled_in, kept_text};
 
     /// No line was read. The error means that memory ran out.
     pub fn new(alloc: Global) -> Result<Ear, AllocError>
@@ -45,7 +45,7 @@ impl Ear {
 
     /// The text of the line that was read last and ended so.
     pub(crate) fn text(&self, ended: Line) -> &[u8]
-        ensures { result.now ≡ text_of ended (kept_in self.now) }
+        ensures { result.now ≡ kept_text ended (kept_in self.now) }
     {
         match ended {
             Line::Fed => without_return(&self.text),

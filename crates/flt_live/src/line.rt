@@ -2,7 +2,7 @@
 ghost use Rattle.std.specs.Prelude.{◌≡◌, ◌≤◌, IfErr, IfOk, length};
 ghost use Rattle.std.specs.Vec.{vec_capacity};
 ghost use Rattle.flt_io.specs.Written.{Writes};
-ghost use Rattle.flt_dcm.specs.Whole.{config_of, state_of};
+ghost use Rattle.flt_dcm.specs.Whole.{config_of, unit_seen};
 ghost use Rattle.flt_life_model.specs.Answers.{byte_room, told_with};
 ghost use Rattle.flt_report.specs.Answer.{step_line};
 ghost use Rattle.flt_live.specs.Answered.{IsLineAnswered, IsDarkLineAnswered, IsReady, IsUp};
@@ -150,12 +150,12 @@ pub fn answer_line<D: Blocks + Drop, K: Sink>(
 ) -> Result<Answered, StreamFault>
     requires ready { IsReady room.old }
     requires same { config_of unit.old ≡ config.now }
-    requires up { IsUp config.now (state_of unit.old) queue.old store.old }
+    requires up { IsUp config.now (unit_seen unit.old) queue.old store.old }
     ensures ready { IsReady room.new }
     ensures same { config_of unit.new ≡ config.now }
-    ensures up { IsUp config.now (state_of unit.new) queue.new store.new }
+    ensures up { IsUp config.now (unit_seen unit.new) queue.new store.new }
     ensures answered { IsLineAnswered config.now (due_at config.now text.now) K.held K.faults sink.old sink.new
-        (state_of unit.old) (state_of unit.new) queue.old queue.new store.old store.new result }
+        (unit_seen unit.old) (unit_seen unit.new) queue.old queue.new store.old store.new result }
 {
     match due_of(alloc, text, config)? {
         Due::Nothing => push_line(b"\n", sink),

@@ -1,8 +1,8 @@
 //! A life of a session: from its power-up to a `power`, or to the end of the source.
 ghost use Rattle.std.specs.Prelude.{◌≡◌, ◌≢◌, ◌<◌, [], IfOk};
-ghost use Rattle.flt_io.specs.Status.{number_of};
+ghost use Rattle.flt_io.specs.Status.{status_number};
 ghost use Rattle.flt_io.specs.Written.{Writes};
-ghost use Rattle.flt_dcm.specs.Whole.{config_of, state_of};
+ghost use Rattle.flt_dcm.specs.Whole.{config_of, unit_seen};
 ghost use Rattle.flt_store_model.specs.Holding.{Generation};
 ghost use Rattle.flt_restore.specs.declared.fault.StartFault.TheVariants.{Flash};
 ghost use Rattle.flt_store.specs.Cause.{HasRoom};
@@ -99,13 +99,13 @@ fn take_lines<R: Wait, D: Blocks + Drop, S: Source, K: Sink>(
     sink: &mut K,
 ) -> LifeEnd
     requires same { config_of unit.old ≡ config.now }
-    requires under_way { IsUnderWay config.now (state_of unit.old) }
+    requires under_way { IsUnderWay config.now (unit_seen unit.old) }
     requires alive { IsAlive config.now store.old }
-    requires living { (first : Generation) × IsLiving config.now first [] [] (state_of unit.old) store.old }
+    requires living { (first : Generation) × IsLiving config.now first [] [] (unit_seen unit.old) store.old }
     requires ready { IsReady room.old }
     ensures same { config_of unit.new ≡ config.now }
     ensures ready { IsReady room.new }
-    ensures all { TakesAll config.now (state_of unit.old) (state_of unit.new) store.old store.new
+    ensures all { TakesAll config.now (unit_seen unit.old) (unit_seen unit.new) store.old store.new
         (talk (ahead_in (S.left source.old) ear.old) (S.faults source.old) (K.held sink.old) (K.faults sink.old))
         (talk (ahead_in (S.left source.new) ear.new) (S.faults source.new) (K.held sink.new) (K.faults sink.new)) result }
 {
@@ -223,7 +223,7 @@ pub fn live<R: Wait, D: Blocks + Drop, S: Source, K: Sink>(
     requires ready { IsReady room.old }
     ensures same { config_of unit.new ≡ config.now }
     ensures ready { IsReady room.new }
-    ensures lived { IsLifeLived config.now number (number_of result.status) (driver_of store.old) store.new (state_of unit.new)
+    ensures lived { IsLifeLived config.now number (status_number result.status) (driver_of store.old) store.new (unit_seen unit.new)
         (talk (ahead_in (S.left source.old) ear.old) (S.faults source.old) (K.held sink.old) (K.faults sink.old))
         (talk (ahead_in (S.left source.new) ear.new) (S.faults source.new) (K.held sink.new) (K.faults sink.new)) result.end }
 {

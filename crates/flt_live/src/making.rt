@@ -5,7 +5,7 @@ ghost use Rattle.flt_model.specs.Start.{Start, History as Calls};
 ghost use Rattle.flt_model.specs.Durable.{saved_after};
 ghost use Rattle.flt_model.specs.declared.call.Op.TheVariants as ops;
 ghost use Rattle.flt_dcm.specs.Unit.{Stands};
-ghost use Rattle.flt_dcm.specs.Whole.{config_of, state_of};
+ghost use Rattle.flt_dcm.specs.Whole.{config_of, unit_seen};
 ghost use Rattle.flt_queue.specs.Queue.{History, IsJob};
 ghost use Rattle.flt_queue.specs.declared.job.QueueOp.TheVariants as queue_ops;
 ghost use Rattle.flt_queue.specs.Stands as queued;
@@ -33,11 +33,11 @@ use flt_store::Store;
 
 /// Takes the durable state.
 fn take_snapshot(unit: &mut Unit, buffers: &mut Buffers)
-    requires under_way { IsUnderWay (config_of unit.old) (state_of unit.old) }
+    requires under_way { IsUnderWay (config_of unit.old) (unit_seen unit.old) }
     ensures config { config_of unit.new ≡ config_of unit.old }
-    ensures under_way { IsUnderWay (config_of unit.old) (state_of unit.new) }
-    ensures stands { (life : Start) (past : Calls) → Stands life past (state_of unit.old) → Stands life (ops.Snapshot ∷ past) (state_of unit.new) }
-    ensures taken { (life : Start) (past : Calls) → Stands life past (state_of unit.old) → buffers.new.state ≡ saved_after life past }
+    ensures under_way { IsUnderWay (config_of unit.old) (unit_seen unit.new) }
+    ensures stands { (life : Start) (past : Calls) → Stands life past (unit_seen unit.old) → Stands life (ops.Snapshot ∷ past) (unit_seen unit.new) }
+    ensures taken { (life : Start) (past : Calls) → Stands life past (unit_seen unit.old) → buffers.new.state ≡ saved_after life past }
     ensures fits { Fits (config_of unit.old) buffers.new.state }
 {
     unit.apply_into(&Op::Snapshot, &mut buffers.state, &mut buffers.response);
@@ -51,12 +51,12 @@ fn save<D: Blocks + Drop>(
     buffers: &mut Buffers,
 ) -> StepAnswer<ReplyKind>
     requires same { config_of unit.old ≡ config.now }
-    requires under_way { IsUnderWay config.now (state_of unit.old) }
+    requires under_way { IsUnderWay config.now (unit_seen unit.old) }
     requires alive { IsAlive config.now store.old }
     ensures config { config_of unit.new ≡ config_of unit.old }
-    ensures under_way { IsUnderWay config.now (state_of unit.new) }
+    ensures under_way { IsUnderWay config.now (unit_seen unit.new) }
     ensures alive { IsAlive config.now store.new }
-    ensures saves { (response : List ℕ) → SavesSo config.now (state_of unit.old) (state_of unit.new) store.old store.new (told_with response result) }
+    ensures saves { (response : List ℕ) → SavesSo config.now (unit_seen unit.old) (unit_seen unit.new) store.old store.new (told_with response result) }
 {
     take_snapshot(unit, buffers);
     match store.save(config, &buffers.state) {
@@ -103,8 +103,8 @@ fn write_job<D: Blocks + Drop>(
     requires job { IsJob config.now.blocks job.now }
     ensures blocks { queue.new.blocks ≡ queue.old.blocks }
     ensures wrote { WritesJob config.now job.now result store.old store.new }
-    ensures noted { (jobs : History) → queued.Stands config.now.blocks jobs queue.old
-        → queued.Stands config.now.blocks (queue_ops.Done job.now.block result ∷ jobs) queue.new }
+    ensures noted { (jobs : History) → queued.QueueStands config.now.blocks jobs queue.old
+        → queued.QueueStands config.now.blocks (queue_ops.Done job.now.block result ∷ jobs) queue.new }
 {
     let written = store.put_block(job.block, &job.bytes).is_ok();
     queue.apply(&QueueOp::Done {
@@ -127,7 +127,7 @@ fn take_job<D: Blocks + Drop>(
     ensures blocks { queue.new.blocks ≡ queue.old.blocks }
     ensures running { (held spare : Generation) → IsRunning config.now held spare store.old → IsRunning config.now held spare store.new }
     ensures calls { Follows (driver_of store.old) (driver_of store.new) }
-    ensures taken { (jobs : History) → queued.Stands config.now.blocks jobs queue.old
+    ensures taken { (jobs : History) → queued.QueueStands config.now.blocks jobs queue.old
         → IsJobTaken config.now jobs result queue.new store.old store.new }
 {
     match queue.apply_into(&QueueOp::Take, job) {
@@ -147,7 +147,7 @@ fn drain<D: Blocks + Drop>(
     ensures blocks { queue.new.blocks ≡ queue.old.blocks }
     ensures running { (held spare : Generation) → IsRunning config.now held spare store.old → IsRunning config.now held spare store.new }
     ensures calls { Follows (driver_of store.old) (driver_of store.new) }
-    ensures drained { (jobs : History) → queued.Stands config.now.blocks jobs queue.old
+    ensures drained { (jobs : History) → queued.QueueStands config.now.blocks jobs queue.old
         → HasDrained config.now jobs result.0 result.1 queue.new store.old store.new }
 {
     let mut job = Job::room();
@@ -173,13 +173,13 @@ pub(crate) fn make<D: Blocks + Drop>(
     action: Action,
 ) -> StepAnswer<ReplyKind>
     requires same { config_of unit.old ≡ config.now }
-    requires up { IsUp config.now (state_of unit.old) queue.old store.old }
+    requires up { IsUp config.now (unit_seen unit.old) queue.old store.old }
     requires possible { IsPossible config.now action }
     requires no_arm { IsNoArm action }
     ensures config { config_of unit.new ≡ config_of unit.old }
-    ensures up { IsUp config.now (state_of unit.new) queue.new store.new }
+    ensures up { IsUp config.now (unit_seen unit.new) queue.new store.new }
     ensures made { (step : Step) → action_of step ≡ action → MakesStep config.now step (told_with buffers.new.response.items result)
-        (state_of unit.old) (state_of unit.new) queue.old queue.new store.old store.new }
+        (unit_seen unit.old) (unit_seen unit.new) queue.old queue.new store.old store.new }
 {
     match action {
         Action::Call(op) => {

@@ -2,7 +2,7 @@
 ghost use Rattle.std.specs.Prelude.{◌≡◌, is_none, map, option_map};
 ghost use Rattle.std.specs.String.{string_bytes};
 ghost use Rattle.flt_did.specs.Table.{dids_of};
-ghost use Rattle.flt_io.specs.Status.{number_of};
+ghost use Rattle.flt_io.specs.Status.{status_number};
 ghost use Rattle.flt_live.specs.Heard.{talk};
 ghost use Rattle.flt_live.specs.Session.{IsProgram, IsSession, Reading, session_in, status_told};
 
@@ -45,7 +45,7 @@ fn hold<R: AllocGlobal + Files<File = File> + Wait, C: Source, S: Source, K: Sin
 ) -> Status
     ensures { (config : Reading) × IsSession (is_none image.entry) (dids_of dids) config
         (talk (S.left source.old) (S.faults source.old) (K.held sink.old) (K.faults sink.old))
-        (talk (S.left source.new) (S.faults source.new) (K.held sink.new) (K.faults sink.new)) (number_of result) }
+        (talk (S.left source.new) (S.faults source.new) (K.held sink.new) (K.faults sink.new)) (status_number result) }
 {
     let alloc = rt.alloc();
     match image {
@@ -62,7 +62,7 @@ fn hold<R: AllocGlobal + Files<File = File> + Wait, C: Source, S: Source, K: Sin
 
 /// The status where a line was written or not.
 pub(crate) fn status_told(status: Status, told: Result<(), StreamFault>) -> Status
-    ensures { number_of result ≡ status_told (number_of status) told }
+    ensures { status_number result ≡ status_told (status_number status) told }
 {
     match told {
         Ok(()) => status,
@@ -82,7 +82,7 @@ pub fn run_live<R: AllocGlobal + Files<File = File> + Wait, S: Source, K: Sink>(
 ) -> Status
     ensures { IsProgram (dids_of dids) (session_in (map string_bytes words.now))
         (talk (S.left source.old) (S.faults source.old) (K.held sink.old) (K.faults sink.old))
-        (talk (S.left source.new) (S.faults source.new) (K.held sink.new) (K.faults sink.new)) (number_of result) }
+        (talk (S.left source.new) (S.faults source.new) (K.held sink.new) (K.faults sink.new)) (status_number result) }
 {
     let Some((config, image)) = read_words(words) else {
         return match sink.push(USAGE) {

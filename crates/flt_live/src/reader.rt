@@ -34,7 +34,7 @@ pub enum Line {
 }
 
 impl LineReader {
-    ghost use Rattle.flt_live.specs.Ahead.{IsLast, ahead_of, pulled, Takes, TakesLine};
+    ghost use Rattle.flt_live.specs.Ahead.{IsLast, ahead_of, pulled, TakesByte, TakesLine};
 
     /// None was pulled.
     pub fn new() -> LineReader
@@ -74,7 +74,7 @@ impl LineReader {
 
     /// The next byte, or none at the end.
     fn next<S: Source>(&mut self, source: &mut S) -> Result<Option<u8>, Failed>
-        ensures taken { IfOk result (λ byte. Takes (ahead_of (S.left source.old) self.old) (ahead_of (S.left source.new) self.new) byte) }
+        ensures taken { IfOk result (λ byte. TakesByte (ahead_of (S.left source.old) self.old) (ahead_of (S.left source.new) self.new) byte) }
         ensures cause { HasCause (S.faults source.old) (S.faults source.new) result }
     {
         self.fill(source)?;

@@ -4,7 +4,7 @@ ghost use Rattle.std.specs.Io.KnownBytes.{Appends};
 ghost use Rattle.flt_did.specs.Serves.{Serves};
 ghost use Rattle.flt_did.specs.Table.{dids_of};
 ghost use Rattle.flt_io.specs.Fault.{Rose};
-ghost use Rattle.flt_io.specs.Status.{number_of};
+ghost use Rattle.flt_io.specs.Status.{status_number};
 ghost use Rattle.flt_dcm.specs.Whole.{config_of};
 ghost use Rattle.flt_flash.specs.Blocks.{device_of};
 ghost use Rattle.flt_store_model.specs.Layout.{numbers};
@@ -18,7 +18,7 @@ ghost use Rattle.flt_life_model.specs.Statuses.{status_by};
 ghost use Rattle.flt_live.specs.Heard.{talk};
 ghost use Rattle.flt_live.specs.Span.{AreSpans};
 ghost use Rattle.flt_live.specs.declared.living.LifeEnd.TheVariants.{Ended};
-ghost use Rattle.flt_live.specs.Session.{EndsFor, HasFailed, IsCutBy, IsEndOf, IsIdle, IsSession, reading, status_of_shelf};
+ghost use Rattle.flt_live.specs.Session.{EndsFor, HasFailed, IsCutBy, IsEndOf, AreIdleLives, IsSession, reading, status_of_shelf};
 
 use crate::ear::Ear;
 use crate::living::{LifeEnd, Room, live};
@@ -102,7 +102,7 @@ fn live_on<R: Wait, S: Source, K: Sink, B: Bench + Drop, H: Shelf<B>>(
     shelf: &mut H,
 ) -> Result<Status, End>
     requires same { config_of unit.old ≡ config.now }
-    ensures lived { IfOk result (λ status. (boot : Boot) × (number_of status ≡ status_by boot)
+    ensures lived { IfOk result (λ status. (boot : Boot) × (status_number status ≡ status_by boot)
         × AreSpans H.tells config.now (talk (S.left source.old) (S.faults source.old) (K.held sink.old) (K.faults sink.old))
         (talk (S.left source.new) (S.faults source.new) (K.held sink.new) (K.faults sink.new)) boot Ended) }
     ensures failed { IfErr result (HasFailed H.tells config.now (talk (S.left source.old) (S.faults source.old) (K.held sink.old) (K.faults sink.old))
@@ -140,7 +140,7 @@ fn live_on<R: Wait, S: Source, K: Sink, B: Bench + Drop, H: Shelf<B>>(
 
 /// The status of a shelf that did not give its flash.
 fn status_of_shelf(fault: &OpenFault) -> Status
-    ensures { number_of result ≡ status_of_shelf fault.now }
+    ensures { status_number result ≡ status_of_shelf fault.now }
 {
     match fault {
         OpenFault::Size { .. } => Status::ImageSize,
@@ -152,8 +152,8 @@ fn status_of_shelf(fault: &OpenFault) -> Status
 
 /// Pushes why a shelf did not give its flash.
 fn tell_shelf<K: Sink>(alloc: Global, fault: &OpenFault, sink: &mut K) -> Status
-    ensures status { (number_of result ≡ status_of_shelf fault.now)
-        ⊎ ((number_of result ≡ 7) ⊎ ((number_of result ≡ 4) × Rose (K.faults sink.old) (K.faults sink.new))) }
+    ensures status { (status_number result ≡ status_of_shelf fault.now)
+        ⊎ ((status_number result ≡ 7) ⊎ ((status_number result ≡ 4) × Rose (K.faults sink.old) (K.faults sink.new))) }
     ensures written { (text : List ℕ) × Appends (K.held sink.old) (K.held sink.new) text }
 {
     let Ok(line) = format!(in alloc; "image refused: {fault}\n") else {
@@ -167,7 +167,7 @@ fn tell_shelf<K: Sink>(alloc: Global, fault: &OpenFault, sink: &mut K) -> Status
 
 /// Whether nothing is done in these lives.
 fn is_idle(lives: &[Vec<Part>]) -> bool
-    ensures { IsTrue result ↔ IsIdle (lists lives.now) }
+    ensures { IsTrue result ↔ AreIdleLives (lists lives.now) }
 {
     match lives {
         [life] => life.is_empty(),
@@ -188,7 +188,7 @@ fn live_by<R: Wait, S: Source, K: Sink, B: Bench + Drop, H: Shelf<B>>(
     requires served { Serves (dids_of dids) script.now.config.events.items }
     ensures { let before = talk (S.left source.old) (S.faults source.old) (K.held sink.old) (K.faults sink.old) in
         let after = talk (S.left source.new) (S.faults source.new) (K.held sink.new) (K.faults sink.new) in
-        EndsFor (IsEndOf H.tells (content script.now) before after) (IsCutBy H.tells (content script.now) before after) before after (number_of result) }
+        EndsFor (IsEndOf H.tells (content script.now) before after) (IsCutBy H.tells (content script.now) before after) before after (status_number result) }
 {
     if !is_idle(&script.lives) {
         return match sink.push(b"script other\n") {
@@ -220,7 +220,7 @@ pub fn run_session<R: Wait, C: Source, S: Source, K: Sink, B: Bench + Drop, H: S
 ) -> Status
     ensures { IsSession H.tells (dids_of dids) (reading (C.left configuration.old) (C.left configuration.new) (C.faults configuration.old) (C.faults configuration.new))
         (talk (S.left source.old) (S.faults source.old) (K.held sink.old) (K.faults sink.old))
-        (talk (S.left source.new) (S.faults source.new) (K.held sink.new) (K.faults sink.new)) (number_of result) }
+        (talk (S.left source.new) (S.faults source.new) (K.held sink.new) (K.faults sink.new)) (status_number result) }
 {
     match fetch(alloc, configuration, &dids) {
         Fetched::Script(script) => live_by(rt, alloc, &script, dids, source, sink, shelf),

@@ -9,7 +9,7 @@ use Rattle.flt_model.specs.declared.call.Op.{Op}
 use Rattle.flt_store_model.specs.Holding.{Generation}
 use Rattle.flt_dcm.specs.declared.unit.Unit.{Unit as Machine}
 use Rattle.flt_dcm.specs.Unit.{Stands}
-use Rattle.flt_dcm.specs.Whole.{config_of, state_of}
+use Rattle.flt_dcm.specs.Whole.{config_of, unit_seen}
 use Rattle.flt_step.specs.declared.step.Step.{Step}
 use Rattle.flt_step.specs.Part.{PartOf}
 use Rattle.flt_turn.specs.declared.vault.Entry.{Entry}
@@ -60,16 +60,16 @@ module _ {F : _} {g : _} {B : Type 0} {b : Ghosts B} where
   -- A unit and a store between two steps: the unit has this configuration and stands for some calls, and the store runs.
   pub record AreOnTheirWay (c : Config) (unit : Machine F g) (store : Store B b) : Type 0 where
     pub same : config_of unit ≡ c
-    pub under_way : IsUnderWay c (state_of unit)
+    pub under_way : IsUnderWay c (unit_seen unit)
     pub alive : IsAlive c store
 
   -- A step was made and has this answer: its calls are behind the others, a life that was living goes on, and each failure has its cause.
   pub record AnswersStep {A : Type 0} (c : Config) (action : Action) (unit next_unit : Machine F g) (store next_store : Store B b)
       (before after : Vec (Entry Op) A) (told : Told) : Type 0 where
-    pub carried : (first : Generation) → Stands (start_from c first.state) (calls_of (reverse before.items)) (state_of unit)
+    pub carried : (first : Generation) → Stands (start_from c first.state) (calls_of (reverse before.items)) (unit_seen unit)
         → IsCarriedOut (start_from c first.state) (reverse before.items) action (reverse after.items) told
-    pub living : (first : Generation) (earlier : List Told) → IsLiving c first (reverse before.items) earlier (state_of unit) store
-        → IsLiving c first (reverse after.items) (with_answer action told earlier) (state_of next_unit) next_store
+    pub living : (first : Generation) (earlier : List Told) → IsLiving c first (reverse before.items) earlier (unit_seen unit) store
+        → IsLiving c first (reverse after.items) (with_answer action told earlier) (unit_seen next_unit) next_store
     pub caused : (begun : ℕ) (earlier : List Told) → IsCaused c begun earlier store → IsCaused c begun (with_answer action told earlier) next_store
 
   -- The same, with the answer behind those of an account.
@@ -80,8 +80,8 @@ module _ {F : _} {g : _} {B : Type 0} {b : Ghosts B} where
 
   -- A life had these parts and no other: it goes on, its calls and its answers are those of its steps, and each failure has its cause.
   pub record HasTakenSteps (c : Config) (parts : List (PartOf Step)) (unit next_unit : Machine F g) (store next_store : Store B b) (account : Account) : Type 0 where
-    pub living : (first : Generation) → IsLiving c first [] [] (state_of unit) store
-        → IsLiving c first (reverse account.journal.items) (deeds_told parts (told_in account.replies)) (state_of next_unit) next_store
-    pub played : (first : Generation) → IsLiving c first [] [] (state_of unit) store
+    pub living : (first : Generation) → IsLiving c first [] [] (unit_seen unit) store
+        → IsLiving c first (reverse account.journal.items) (deeds_told parts (told_in account.replies)) (unit_seen next_unit) next_store
+    pub played : (first : Generation) → IsLiving c first [] [] (unit_seen unit) store
         → IsLife (start_from c first.state) parts (told_in account.replies) [] account.journal.items []
     pub caused : (begun : ℕ) → IsCaused c begun [] store → IsCaused c begun (deeds_told parts (told_in account.replies)) next_store

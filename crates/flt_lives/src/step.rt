@@ -9,7 +9,7 @@ ghost use Rattle.flt_model.specs.declared.call.Op.TheVariants as ops;
 ghost use Rattle.flt_store_model.specs.Holding.{SameApplications};
 ghost use Rattle.flt_dcm.specs.ReplyKind.{reply_with};
 ghost use Rattle.flt_dcm.specs.Unit.{Stands, IsAdmitted, IsTesterCall};
-ghost use Rattle.flt_dcm.specs.Whole.{config_of, state_of};
+ghost use Rattle.flt_dcm.specs.Whole.{config_of, unit_seen};
 ghost use Rattle.flt_store.specs.Store.{driver_of};
 ghost use Rattle.flt_life_model.specs.declared.action.Action.TheVariants as actions;
 ghost use Rattle.flt_life_model.specs.Actions.{arm_count, arms_of, call_count, response_size};
@@ -29,12 +29,12 @@ use flt_store::Store;
 
 /// Makes a call of the machine that is neither a snapshot nor a save.
 fn call(unit: &mut Unit, op: &Op, buffers: &mut Buffers) -> ReplyKind
-    requires under_way { IsUnderWay (config_of unit.old) (state_of unit.old) }
+    requires under_way { IsUnderWay (config_of unit.old) (unit_seen unit.old) }
     requires admitted { IsAdmitted (config_of unit.old) op.now }
     ensures config { config_of unit.new ≡ config_of unit.old }
-    ensures under_way { IsUnderWay (config_of unit.old) (state_of unit.new) }
-    ensures stands { (life : Start) (past : History) → Stands life past (state_of unit.old) → Stands life (op.now ∷ past) (state_of unit.new) }
-    ensures answer { (life : Start) (past : History) → Stands life past (state_of unit.old)
+    ensures under_way { IsUnderWay (config_of unit.old) (unit_seen unit.new) }
+    ensures stands { (life : Start) (past : History) → Stands life past (unit_seen unit.old) → Stands life (op.now ∷ past) (unit_seen unit.new) }
+    ensures answer { (life : Start) (past : History) → Stands life past (unit_seen unit.old)
         → reply_with result buffers.new.response.items ≡ answer life past op.now }
     ensures no_response { ¬ IsTesterCall op.now → reply_size (reply_with result buffers.new.response.items) ≡ 0 }
 {
@@ -43,11 +43,11 @@ fn call(unit: &mut Unit, op: &Op, buffers: &mut Buffers) -> ReplyKind
 
 /// Takes the durable state.
 fn take_snapshot(unit: &mut Unit, buffers: &mut Buffers)
-    requires under_way { IsUnderWay (config_of unit.old) (state_of unit.old) }
+    requires under_way { IsUnderWay (config_of unit.old) (unit_seen unit.old) }
     ensures config { config_of unit.new ≡ config_of unit.old }
-    ensures under_way { IsUnderWay (config_of unit.old) (state_of unit.new) }
-    ensures stands { (life : Start) (past : History) → Stands life past (state_of unit.old) → Stands life (ops.Snapshot ∷ past) (state_of unit.new) }
-    ensures taken { (life : Start) (past : History) → Stands life past (state_of unit.old) → buffers.new.state ≡ saved_after life past }
+    ensures under_way { IsUnderWay (config_of unit.old) (unit_seen unit.new) }
+    ensures stands { (life : Start) (past : History) → Stands life past (unit_seen unit.old) → Stands life (ops.Snapshot ∷ past) (unit_seen unit.new) }
+    ensures taken { (life : Start) (past : History) → Stands life past (unit_seen unit.old) → buffers.new.state ≡ saved_after life past }
     ensures fits { Fits (config_of unit.old) buffers.new.state }
 {
     unit.apply_into(&Op::Snapshot, &mut buffers.state, &mut buffers.response);

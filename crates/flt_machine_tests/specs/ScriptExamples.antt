@@ -7,7 +7,7 @@ use Rattle.flt_config.specs.declared.config.EventCfg.{EventCfg}
 use Rattle.flt_model.specs.declared.call.Report.TheVariants.{Passed, Failed, PrePassed, PreFailed}
 use Rattle.flt_script.specs.declared.fault.LineCause.TheVariants.{Range}
 use Rattle.flt_script.specs.Behind.{blank}
-use Rattle.flt_script.specs.Causes.{holds, is_strange}
+use Rattle.flt_script.specs.Causes.{cause_holds, is_strange}
 use Rattle.flt_script.specs.Load.{load_config, load_lanes}
 use Rattle.flt_script.specs.Next.{with_text}
 use Rattle.flt_script.specs.Numeral.{hexadecimal, number, signed}
@@ -42,7 +42,7 @@ events_of_text text = option_map (λ b. b.config.events.items) (result_ok (with_
 
 -- Whether a number of the first line of a script is out of its range.
 abbrev pub is_out : List ℕ → Bool
-is_out text = holds [] blank text Range
+is_out text = cause_holds [] blank text Range
 
 -- An event of this DTC, with the defaults for the rest.
 abbrev pub event_of_load : ℕ → EventCfg

@@ -1,6 +1,6 @@
 //! How bad an entry is when the memory is full.
 ghost use Rattle.std.specs.Prelude.{◌≡◌, ◌<◌, ◌≤◌, IfSome, IfNone, length, All};
-ghost use Rattle.flt_memory.specs.Displacement.{rank_in as event_rank, ranks_of, priority_of, IsWorst, GivesWay, IsDisplaced, StaysFull};
+ghost use Rattle.flt_memory.specs.Displacement.{rank_in as event_rank, ranks_of, priority_of, IsWorst, WorstGivesWay, IsDisplaced, StaysFull};
 
 use flt_config::{Config, EntryState, EventState};
 use flt_model::Rank;

@@ -4,7 +4,7 @@ use Rattle.std.specs.Prelude.{option_map, find}
 use Rattle.std.proofs.lemmas.Bool.{cases_Bool, and_parts, ne_eqb, false_from_ne_true}
 use Rattle.flt_model.specs.NegativeCode.{request_out_of_range, service_not_supported, service_not_supported_in_session}
 use Rattle.flt_model.specs.Request.{Form, Plain, Masked, Recorded, Optioned, SubFunction, sub_functions, has_sub_functions, form_of, is_record_number, dtc_of, row, contents, refused, accepted, asked_in, asked_with_sub, asked_clear, asked}
-use Rattle.flt_model.specs.SessionLaws.{spells}
+use Rattle.flt_model.specs.SessionLaws.{spells_request}
 use Rattle.flt_model.specs.declared.request.Asked.{Asked}
 use Rattle.flt_model.specs.declared.request.Negative.{Negative}
 use Rattle.flt_model.specs.declared.request.Request.{Request}
@@ -158,17 +158,17 @@ module _ (look : Result Asked Negative → Option Bool) (none : (negative : Nega
     -- What it reads of the bytes.
     pub by_bytes : (extended : Bool) → look (asked extended (service ∷ [])) ≡ None →
         ((sub : ℕ) (rest : List ℕ) → look (asked extended (service ∷ sub ∷ rest)) ≡ look (asked_in service (nat_le 128 sub) (found (nat_eq low (sub % 128)) (nat_eq high (sub % 128))) rest)) →
-        (bytes : List ℕ) → look (asked extended bytes) ≡ either (spells service high follows bytes) (spells service low follows bytes)
+        (bytes : List ℕ) → look (asked extended bytes) ≡ either (spells_request service high follows bytes) (spells_request service low follows bytes)
     by_bytes extended alone table [] = none _
     by_bytes extended alone table (first ∷ rest) =
         elim (cases_Bool (nat_eq first service)) [
           | inl e ↦
-              subst (λ s. look (asked extended (s ∷ rest)) ≡ either (spells service high follows (s ∷ rest)) (spells service low follows (s ∷ rest)))
+              subst (λ s. look (asked extended (s ∷ rest)) ≡ either (spells_request service high follows (s ∷ rest)) (spells_request service low follows (s ∷ rest)))
               (sym (eqb-true first service e)) (own rest)
           | inr e ↦ none_elsewhere extended first rest e ∙ neither first e rest
         ]
       where
-        own : (rest : List ℕ) → look (asked extended (service ∷ rest)) ≡ either (spells service high follows (service ∷ rest)) (spells service low follows (service ∷ rest))
+        own : (rest : List ℕ) → look (asked extended (service ∷ rest)) ≡ either (spells_request service high follows (service ∷ rest)) (spells_request service low follows (service ∷ rest))
         own [] = alone
         own (sub ∷ rest) =
             table sub rest
@@ -176,6 +176,6 @@ module _ (look : Result Asked Negative → Option Bool) (none : (negative : Nega
             ∙ rows_either (nat_eq low (sub % 128)) (nat_eq high (sub % 128)) (follows rest) (not_both (sub % 128))
             ∙ rw (eq-eqb service service refl, same_test low (sub % 128), same_test high (sub % 128)) refl
 
-        neither : (first : ℕ) → nat_eq first service ≡ false → (rest : List ℕ) → None ≡ either (spells service high follows (first ∷ rest)) (spells service low follows (first ∷ rest))
+        neither : (first : ℕ) → nat_eq first service ≡ false → (rest : List ℕ) → None ≡ either (spells_request service high follows (first ∷ rest)) (spells_request service low follows (first ∷ rest))
         neither first e [] = refl
         neither first e (sub ∷ rest) = rw e refl

@@ -12,7 +12,7 @@ use Rattle.flt_config.specs.declared.persist.EntryState.{EntryState}
 use Rattle.flt_config.specs.Ranges.{frame_width}
 use Rattle.flt_config.specs.Durable.{IsEntryOf, is_of_event}
 use Rattle.flt_model.specs.Start.{Start, event_of}
-use Rattle.flt_model.specs.Mark.{Mark, Past, Kind, Trace, Of, AllCleared, own, marks_of, decided, count_since, one_more}
+use Rattle.flt_model.specs.Mark.{Mark, Past, Kind, Trace, Of, AllCleared, own, marks_of, decided, count_since, one_more_if}
 use Rattle.flt_model.specs.Mark.Mark.{Failed, Passed, Cycle, Clear, Aged, Displaced, Added, Refused}
 use Rattle.flt_model.specs.Frame.{did_bytes, frame_bytes}
 use Rattle.flt_model.specs.Entry.{has_entry, entry_row, restarts_occurrence, base_entry, base_first, first_row, frame}
@@ -62,7 +62,7 @@ still Displaced not flag true past held = absurd (cc)
 
 -- ---- the occurrence
 
-one_more_least : (b : Bool) (n : ℕ) → 1 ≤ n → 1 ≤ one_more b n
+one_more_least : (b : Bool) (n : ℕ) → 1 ≤ n → 1 ≤ one_more_if b n
 one_more_least true n least = omega (arith, least)
 one_more_least false n least = least
 

@@ -41,14 +41,14 @@ abbrev pub Restart : Type 0
 Restart = Past → Mark → Option ℕ
 
 -- One more, if it counts.
-abbrev pub one_more : Bool → ℕ → ℕ
-one_more counts n = if counts then n + 1 else n
+abbrev pub one_more_if : Bool → ℕ → ℕ
+one_more_if counts n = if counts then n + 1 else n
 
 -- The number of marks of a kind since the count was last restarted; if it never was, they are added to the base's number.
 abbrev pub count_since : Restart → Kind → ℕ → Past → ℕ
 count_since restart counted base [] = base
 count_since restart counted base (mark ∷ past) =
-    unwrap_or (restart past mark) (one_more (counted past mark) (count_since restart counted base past))
+    unwrap_or (restart past mark) (one_more_if (counted past mark) (count_since restart counted base past))
 
 -- ---- the marks of all events
 

@@ -83,10 +83,10 @@ abbrev pub is_of_dtc : ℕ → EventView → Bool
 is_of_dtc dtc event = event.dtc == dtc
 
 -- The identifiers and values that a frame holds.
-abbrev pub values_of : List DidUse → List ℕ → List ℕ
-values_of [] frame = []
-values_of (did ∷ dids) frame =
-    ((did.id / 256) ∷ (did.id % 256) ∷ take did.width frame) ++ values_of dids (drop did.width frame)
+abbrev pub identified_values : List DidUse → List ℕ → List ℕ
+identified_values [] frame = []
+identified_values (did ∷ dids) frame =
+    ((did.id / 256) ∷ (did.id % 256) ∷ take did.width frame) ++ identified_values dids (drop did.width frame)
 
 -- A record number asks for this record.
 abbrev pub selects : ℕ → ℕ → Bool
@@ -98,7 +98,7 @@ where_selected number record_number bytes = if selects number record_number then
 
 -- A snapshot record: its number, the number of its identifiers, and each of these with its value.
 abbrev pub snapshot : List DidUse → ℕ → List ℕ → List ℕ
-snapshot dids number frame = (number ∷ length dids ∷ []) ++ values_of dids frame
+snapshot dids number frame = (number ∷ length dids ∷ []) ++ identified_values dids frame
 
 -- The requested snapshot records, the first and the most recent.
 abbrev pub snapshots : List DidUse → ℕ → Option EntryState → List ℕ

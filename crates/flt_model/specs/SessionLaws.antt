@@ -22,9 +22,9 @@ RequestLeavesOtherTesters = (past : History) (tester other : ℕ) (bytes : Reque
 -- ---- which session a tester is in
 
 -- A request of this service with this sub-function, whose bit 7 does not belong to it, and what may follow it.
-abbrev pub spells : ℕ → ℕ → (List ℕ → Bool) → List ℕ → Bool
-spells service sub_function follows (first ∷ second ∷ rest) = (first == service) && (second % 128 == sub_function) && follows rest
-spells service sub_function follows _ = false
+abbrev pub spells_request : ℕ → ℕ → (List ℕ → Bool) → List ℕ → Bool
+spells_request service sub_function follows (first ∷ second ∷ rest) = (first == service) && (second % 128 == sub_function) && follows rest
+spells_request service sub_function follows _ = false
 
 -- Nothing follows.
 abbrev pub is_nothing : List ℕ → Bool
@@ -33,7 +33,7 @@ is_nothing _ = false
 
 -- An accepted request for a session: service 0x10 with this sub-function, and nothing after it.
 abbrev pub asks_session : ℕ → List ℕ → Bool
-asks_session sub_function bytes = spells 0x10 sub_function is_nothing bytes
+asks_session sub_function bytes = spells_request 0x10 sub_function is_nothing bytes
 
 -- A call is a request of the tester.
 abbrev pub is_from : ℕ → Op → Bool
@@ -83,7 +83,7 @@ is_option _ = false
 -- A request about the setting that is accepted in the extended session: service 0x85 with this sub-function, 0x01 for on or
 -- 0x02 for off, and the option bytes or nothing after it.
 abbrev pub asks_setting : ℕ → List ℕ → Bool
-asks_setting sub_function bytes = spells 0x85 sub_function is_option bytes
+asks_setting sub_function bytes = spells_request 0x85 sub_function is_option bytes
 
 -- A call is such a request of the tester.
 abbrev pub is_setting_request : ℕ → ℕ → Op → Bool

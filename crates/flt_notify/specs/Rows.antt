@@ -6,12 +6,12 @@ use Rattle.flt_notify.specs.declared.change.Change.{Change}
 use Rattle.flt_notify.specs.declared.row.Row.{Row}
 
 -- It is this kind.
-abbrev pub is_kind : ℕ → ℕ → Bool
-is_kind kind other = other == kind
+abbrev pub is_same_kind : ℕ → ℕ → Bool
+is_same_kind kind other = other == kind
 
 -- The kind is one of these.
 abbrev pub has_kind : List ℕ → ℕ → Bool
-has_kind kinds kind = is_some (find (is_kind kind) kinds)
+has_kind kinds kind = is_some (find (is_same_kind kind) kinds)
 
 -- A row without its function.
 abbrev pub row_kind : {F : _} {g : _} → Row F g → ℕ

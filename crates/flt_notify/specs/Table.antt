@@ -15,13 +15,13 @@ abbrev pub values_in : {n : ℕ} {F : _} {g : _} → SubTable n F g → List ℕ
 values_in table = table.values
 
 -- The value of a kind, where it has a subscriber.
-abbrev pub value_in : {n : ℕ} {F : _} {g : _} → SubTable n F g → ℕ → Option ℕ
-value_in table kind = if has_kind (kinds_in table) kind then Some (slice_index_or (values_in table) kind 0) else None
+abbrev pub value_of_kind : {n : ℕ} {F : _} {g : _} → SubTable n F g → ℕ → Option ℕ
+value_of_kind table kind = if has_kind (kinds_in table) kind then Some (slice_index_or (values_in table) kind 0) else None
 
 -- Each subscriber has the value that the changes of these calls give its kind.
 abbrev pub HasValuesOf : {n : ℕ} {F : _} {g : _} → Start → History → SubTable n F g → Type 0
 HasValuesOf life past table =
-    (kind : ℕ) → kind ≤ 2 → has_kind (kinds_in table) kind ≡ true → value_in table kind ≡ Some (value_after life past kind)
+    (kind : ℕ) → kind ≤ 2 → has_kind (kinds_in table) kind ≡ true → value_of_kind table kind ≡ Some (value_after life past kind)
 
 -- Each value is 0.
 abbrev pub IsAtZero : {n : ℕ} {F : _} {g : _} → SubTable n F g → Type 0

@@ -10,9 +10,9 @@ abbrev pub watched_unit : Watched → UnitView
 watched_unit watched = watched.guarded.state.value
 
 -- The values.
-abbrev pub values_of : Watched → List ℕ
-values_of watched = watched.values
+abbrev pub values_now : Watched → List ℕ
+values_now watched = watched.values
 
 -- It stands for a base and these calls, and so do its values.
 abbrev pub Watches : Start → History → Watched → Type 0
-Watches life past watched = IsWatching life past (watched_unit watched) (values_of watched) watched.calls
+Watches life past watched = IsWatching life past (watched_unit watched) (values_now watched) watched.calls

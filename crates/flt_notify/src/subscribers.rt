@@ -3,7 +3,7 @@ ghost use Rattle.std.specs.Prelude.{◌≡◌, ◌<◌, ◌≤◌, ◌^◌, ◌+
 ghost use Rattle.std.specs.Borrow.{Bor};
 ghost use Rattle.flt_notify.specs.declared.change.Change.{Change as ChangeView};
 ghost use Rattle.flt_notify.specs.Value.{next_value, IsInRange};
-ghost use Rattle.flt_notify.specs.Rows.{rows_kinds, row_kind, is_kind, has_kind, row_of, IsAnswerTo};
+ghost use Rattle.flt_notify.specs.Rows.{rows_kinds, row_kind, is_same_kind, has_kind, row_of, IsAnswerTo};
 
 use crate::change::Change;
 use crate::kinds::next;
@@ -34,7 +34,7 @@ impl<const ROWS: usize> Subscribers<ROWS> {
     #[tactic(auto, using(crate::proofs::RowsLemmas::found_kind))]
     fn row(&self, kind: u8) -> Option<&Row>
         ensures row { option_copied result ≡ row_of self.now.rows.items kind }
-        ensures found { option_map row_kind (option_copied result) ≡ find (is_kind kind) (kinds_of self.now) }
+        ensures found { option_map row_kind (option_copied result) ≡ find (is_same_kind kind) (kinds_of self.now) }
         ensures named { IfSome result (λ row. row.now.kind ≡ kind) }
         ensures range { IfSome result (λ row. row.now.kind ≤ 2) }
     {

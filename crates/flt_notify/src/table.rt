@@ -30,7 +30,7 @@ pub struct SubTable<const ROWS: usize> {
 }
 
 impl<const ROWS: usize> SubTable<ROWS> {
-    ghost use Rattle.flt_notify.specs.Table.{IsAtZero, kinds_in, values_in, value_in};
+    ghost use Rattle.flt_notify.specs.Table.{IsAtZero, kinds_in, values_in, value_of_kind};
 
     /// A table without subscribers.
     pub fn new() -> Self
@@ -71,7 +71,7 @@ impl<const ROWS: usize> SubTable<ROWS> {
 
     /// The value of a kind, where it has a subscriber.
     pub fn value(&self, kind: u8) -> Option<u64>
-        ensures { result ≡ value_in self.now kind }
+        ensures { result ≡ value_of_kind self.now kind }
     {
         if self.subscribers.has(kind) {
             Some(self.values.of(kind))

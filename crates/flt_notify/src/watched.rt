@@ -11,7 +11,7 @@ ghost use Rattle.flt_notify.specs.Changes.{changes_from, statuses, statuses_afte
 ghost use Rattle.flt_notify.specs.Subscribers.{AreTold, kinds_of};
 ghost use Rattle.flt_notify.specs.Table.{HasValuesOf, IsAtZero, kinds_in, values_in};
 ghost use Rattle.flt_notify.specs.Value.{next_values};
-ghost use Rattle.flt_notify.specs.Watched.{Watches, values_of, watched_unit};
+ghost use Rattle.flt_notify.specs.Watched.{Watches, values_now, watched_unit};
 
 use crate::kinds::KINDS;
 use crate::subscribers::Subscribers;
@@ -83,7 +83,7 @@ impl Watched {
         ensures unit { unit_in result.0 ≡ watched_unit self }
         ensures dids { dids_of result.0.dids ≡ dids_of lent.dids }
         ensures subs { kinds_in result.1 ≡ kinds_of lent.subscribers }
-        ensures values { values_in result.1 ≡ values_of self }
+        ensures values { values_in result.1 ≡ values_now self }
         ensures told { (life : Start) (past : History) → Watches life past self → HasValuesOf life past result.1 }
     {
         let Watched {

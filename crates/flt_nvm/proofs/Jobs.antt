@@ -5,8 +5,8 @@ use Rattle.flt_flash.specs.declared.blocks.BlockFault.{BlockFault}
 use Rattle.flt_flash.specs.declared.blocks.BlockFault.TheVariants.{Flash, Full, SequenceSpent, Damaged}
 use Rattle.flt_flash.specs.Blocks.{BlocksState}
 use Rattle.std.proofs.lemmas.Grind.{common_steps}
-use Rattle.flt_flash.specs.Calls.{Calls, Changes, Settles}
-use Rattle.flt_nvm.specs.Table.{number_of}
+use Rattle.flt_flash.specs.Calls.{BlockCalls, Changes, Settles}
+use Rattle.flt_nvm.specs.Table.{driver_number}
 use Rattle.flt_nvm.specs.Tries.{Tries, Changing}
 use Rattle.flt_nvm.proofs.Named.{tries_named}
 use Rattle.flt_nvm.specs.Leaves.{FlashTakesThree, Gives, GivesBoth, GivesCopies, GivesInAJob, GivesInTwoJobs, GivesNumber}
@@ -43,7 +43,7 @@ module _ (block : ℕ) (asked : Content) (size : ℕ) where
       gives_again before between after (Err Flash) result (gives_at_once before between (Err Flash) failed.changes) (gives_in_a_job (suc more) between after result rest)
 
 module _ (block : ℕ) (asked : Content) (size : ℕ) (before after : BlocksState) (result : Result (Unit {0}) BlockFault) (tries : Tries 3 (Changing block asked size) before after result) where
-  calls_in_a_job : Calls before after result
+  calls_in_a_job : BlockCalls before after result
   unfolding Tries
   calls_in_a_job = grind (arith, common_steps)
 
@@ -66,7 +66,7 @@ module _ (block : ℕ) (asked : Content) (size : ℕ) (before after : BlocksStat
     named = tries_named (Changing block asked size) block (λ earlier later answer one. one.once.named) 3 before after result tries;
   }
 
-module _ (id : ℕ) (asked : Content) (size first : ℕ) (first_is : first ≡ number_of id 0) where
+module _ (id : ℕ) (asked : Content) (size first : ℕ) (first_is : first ≡ driver_number id 0) where
   -- The job on the first copy failed.
   first_job_alone : (before after : BlocksState) (result : Result (Unit {0}) BlockFault) → is_ok result ≡ false
       → GivesInAJob first asked size before after result → GivesInTwoJobs id asked size before after result
@@ -74,7 +74,7 @@ module _ (id : ℕ) (asked : Content) (size first : ℕ) (first_is : first ≡ n
   first_job_alone before after (Err fault) failed job = inl (subst (λ (n : ℕ). GivesInAJob n asked size before after (Err fault)) first_is job, refl)
 
   -- The job on the second copy followed.
-  both_jobs : (second : ℕ) → second ≡ number_of id 1 → (before between after : BlocksState) (answer result : Result (Unit {0}) BlockFault) → is_ok answer ≡ true
+  both_jobs : (second : ℕ) → second ≡ driver_number id 1 → (before between after : BlocksState) (answer result : Result (Unit {0}) BlockFault) → is_ok answer ≡ true
       → GivesInAJob first asked size before between answer → GivesInAJob second asked size between after result → GivesInTwoJobs id asked size before after result
   both_jobs second second_is before between after (Err fault) result answered job next = absurd (cc answered)
   both_jobs second second_is before between after (Ok value) result answered job next =
@@ -87,7 +87,7 @@ module _ (id : ℕ) (asked : Content) (size first : ℕ) (first_is : first ≡ n
       record {
         first = tt;
         second = tt;
-        either = inl (one.either, one.others (number_of id 1) (λ same. omega (arith, same)));
+        either = inl (one.either, one.others (driver_number id 1) (λ same. omega (arith, same)));
         others = λ other apart also. one.others other apart;
         full = one.full;
         spent = λ told. inl (one.spent told);
@@ -104,7 +104,7 @@ module _ (id : ℕ) (asked : Content) (size first : ℕ) (first_is : first ≡ n
     named = λ told. inl (gives.named.flash told ∙ ap Some first_is);
   }
 
-  pub gives_both : (second : ℕ) → second ≡ number_of id 1 → (before between after : BlocksState) (value : Unit {0}) (result : Result (Unit {0}) BlockFault)
+  pub gives_both : (second : ℕ) → second ≡ driver_number id 1 → (before between after : BlocksState) (value : Unit {0}) (result : Result (Unit {0}) BlockFault)
       → GivesNumber first asked size before between (Ok value) → GivesNumber second asked size between after result → GivesCopies id asked size before after result
   gives_both second second_is before between after value result one two = record {
     jobs = both_jobs second second_is before between after (Ok value) result refl one.job two.job;

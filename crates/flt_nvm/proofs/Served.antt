@@ -9,7 +9,7 @@ use Rattle.std.proofs.lemmas.Map.Views.{Contains-from_any}
 use Rattle.flt_nvm.specs.declared.table.Kind.{Kind}
 use Rattle.flt_nvm.specs.declared.table.Kind.TheVariants.{Native, Redundant, Dataset}
 use Rattle.flt_nvm.specs.declared.table.BlockCfg.{BlockCfg}
-use Rattle.flt_nvm.specs.Table.{number_of, block_in, numbers_taken, has_number, is_kind, is_served, serves, HasPlace, FitsBlock}
+use Rattle.flt_nvm.specs.Table.{driver_number, block_in, numbers_taken, has_number, is_kind, is_served, serves, HasPlace, FitsBlock}
 
 -- A block that is found stands in the table, under this identifier.
 found_is_served : (numbers : List ℕ) (table : List BlockCfg) (id : ℕ) (block : BlockCfg) → serves numbers table ≡ true → block_in table id ≡ Some block → (is_served numbers block ≡ true) × (block.id ≡ id)
@@ -38,11 +38,11 @@ record IsServed (numbers : List ℕ) (block : BlockCfg) : Type 0 where
   id : block.id < 8192
   length_is : block.length < 129
   kind : is_kind block.kind ≡ true
-  numbers_are : list_all (λ index. has_number numbers (number_of block.id index)) (range_with_len 0 (numbers_taken block.kind)) ≡ true
+  numbers_are : list_all (λ index. has_number numbers (driver_number block.id index)) (range_with_len 0 (numbers_taken block.kind)) ≡ true
 
 served : (numbers : List ℕ) (block : BlockCfg) → is_served numbers block ≡ true → IsServed numbers block
 served numbers block all =
-    let last = and_parts _ (list_all (λ index. has_number numbers (number_of block.id index)) (range_with_len 0 (numbers_taken block.kind))) all in
+    let last = and_parts _ (list_all (λ index. has_number numbers (driver_number block.id index)) (range_with_len 0 (numbers_taken block.kind))) all in
     let kind = and_parts _ (is_kind block.kind) last.0 in
     let most = and_parts _ (nat_lt block.length 129) kind.0 in
     let least = and_parts _ (nat_lt 0 block.length) most.0 in
@@ -53,19 +53,19 @@ module _ (numbers : List ℕ) (block : BlockCfg) (is : IsServed numbers block) (
   places : List ℕ
   places = range_with_len 0 (numbers_taken block.kind)
 
-  number_is_given : Contains numbers (number_of block.id place)
+  number_is_given : Contains numbers (driver_number block.id place)
   unfolding places
   number_is_given =
       let here : place < length places = omega (arith, taken, length-range_with_len 0 (numbers_taken block.kind)) in
-      let at = AllPass-from_list_all (λ (index : ℕ). has_number numbers (number_of block.id index)) places is.numbers_are place 0 here in
+      let at = AllPass-from_list_all (λ (index : ℕ). has_number numbers (driver_number block.id index)) places is.numbers_are place 0 here in
       let same : get_or places place 0 ≡ place = omega (arith, taken, get_or-range_with_len 0 (numbers_taken block.kind) place 0 taken) in
-      Contains-from_any (λ (x y : ℕ) e. eqb-true x y e) (number_of block.id place) numbers (subst (λ (p : ℕ). has_number numbers (number_of block.id p) ≡ true) same at)
+      Contains-from_any (λ (x y : ℕ) e. eqb-true x y e) (driver_number block.id place) numbers (subst (λ (p : ℕ). has_number numbers (driver_number block.id p) ≡ true) same at)
 
 -- The numbers of a block.
 pub record IsGiven (numbers : List ℕ) (id place : ℕ) : Type 0 where
   pub id_is : id < 8192
   pub place_is : place < 8
-  pub number : Contains numbers (number_of id place)
+  pub number : Contains numbers (driver_number id place)
 
 module _ (numbers : List ℕ) (table : List BlockCfg) (id : ℕ) (all : serves numbers table ≡ true) where
   pub given : (place : ℕ) → HasPlace table id place → IsGiven numbers id place

@@ -3,13 +3,13 @@ use Rattle.std.specs.Prelude.{◌≡◌, ◌≢◌, ◌⊎◌, ℕ, List, Option
 use Rattle.flt_flash.specs.Content.{Content, missing, invalid, bytes}
 use Rattle.flt_flash.specs.State.{HasRisenBy}
 use Rattle.flt_flash.specs.Blocks.{BlocksState, IsFull}
-use Rattle.flt_flash.specs.Calls.{Calls, ReadsContent, NeverFull, OthersKept, SameSpent, SameValues, Settles}
+use Rattle.flt_flash.specs.Calls.{BlockCalls, ReadsContent, NeverFull, OthersKept, SameSpent, SameValues, Settles}
 use Rattle.flt_flash.specs.declared.blocks.Found.TheVariants.{Bytes as FoundBytes, Missing as FoundMissing, Invalid as FoundInvalid}
 use Rattle.flt_flash.specs.declared.blocks.BlockFault.{BlockFault}
 use Rattle.flt_flash.specs.declared.blocks.BlockFault.TheVariants.{Flash, Full, SequenceSpent}
 use Rattle.flt_nvm.specs.declared.got.Got.{Got}
 use Rattle.flt_nvm.specs.declared.got.Got.TheVariants.{Bytes, Missing, Invalid}
-use Rattle.flt_nvm.specs.Table.{number_of}
+use Rattle.flt_nvm.specs.Table.{driver_number}
 use Rattle.flt_nvm.specs.Tries.{Tries, Changing, Mounts}
 
 -- A number holds what it held, or what was asked.
@@ -28,7 +28,7 @@ pub record NamesNumber {T : Type 0} (number : ℕ) (before after : BlocksState) 
 
 -- The last call that the flash failed was of a copy of this block.
 abbrev pub HasFailedCopy : ℕ → BlocksState → Type 0
-HasFailedCopy id after = (after.last_failed ≡ Some (number_of id 0)) ⊎ (after.last_failed ≡ Some (number_of id 1))
+HasFailedCopy id after = (after.last_failed ≡ Some (driver_number id 0)) ⊎ (after.last_failed ≡ Some (driver_number id 1))
 
 -- One number holds what was asked after Ok, what it held or what was asked after a fault, and every other what it held.
 pub record Gives (before after : BlocksState) (number : ℕ) (asked : Content) (size : ℕ) (result : Result (Unit {0}) BlockFault) : Type 0 where
@@ -41,13 +41,13 @@ pub record Gives (before after : BlocksState) (number : ℕ) (asked : Content) (
 -- Both copies hold what was asked after Ok; after a fault each holds what it held or what was asked, and the second has changed
 -- only where the first holds what was asked; every other number holds what it held.
 pub record GivesBoth (before after : BlocksState) (id : ℕ) (asked : Content) (size : ℕ) (result : Result (Unit {0}) BlockFault) : Type 0 where
-  pub first : OnOk result (after.value (number_of id 0) ≡ asked)
-  pub second : OnOk result (after.value (number_of id 1) ≡ asked)
-  pub either : (IsEither before after (number_of id 0) asked × (after.value (number_of id 1) ≡ before.value (number_of id 1)))
-      ⊎ ((after.value (number_of id 0) ≡ asked) × IsEither before after (number_of id 1) asked)
-  pub others : (other : ℕ) → other ≢ number_of id 0 → other ≢ number_of id 1 → after.value other ≡ before.value other
+  pub first : OnOk result (after.value (driver_number id 0) ≡ asked)
+  pub second : OnOk result (after.value (driver_number id 1) ≡ asked)
+  pub either : (IsEither before after (driver_number id 0) asked × (after.value (driver_number id 1) ≡ before.value (driver_number id 1)))
+      ⊎ ((after.value (driver_number id 0) ≡ asked) × IsEither before after (driver_number id 1) asked)
+  pub others : (other : ℕ) → other ≢ driver_number id 0 → other ≢ driver_number id 1 → after.value other ≡ before.value other
   pub full : (live needed : ℕ) → IsErrOf result (Full live needed) → IsFull after size live needed
-  pub spent : IsErrOf result SequenceSpent → IsTrue (after.is_stuck (number_of id 0) size) ⊎ IsTrue (after.is_stuck (number_of id 1) size)
+  pub spent : IsErrOf result SequenceSpent → IsTrue (after.is_stuck (driver_number id 0) size) ⊎ IsTrue (after.is_stuck (driver_number id 1) size)
 
 -- One job of at most three tries.
 abbrev pub GivesInAJob : ℕ → Content → ℕ → BlocksState → BlocksState → Result (Unit {0}) BlockFault → Type 0
@@ -56,14 +56,14 @@ GivesInAJob number asked size before after result = Tries 3 (Changing number ask
 -- A job on the first copy, and one on the second only where the first answered Ok.
 abbrev pub GivesInTwoJobs : ℕ → Content → ℕ → BlocksState → BlocksState → Result (Unit {0}) BlockFault → Type 0
 GivesInTwoJobs id asked size before after result =
-    (GivesInAJob (number_of id 0) asked size before after result × IsErr result)
-    ⊎ ((between : BlocksState) × GivesInAJob (number_of id 0) asked size before between (Ok tt) × GivesInAJob (number_of id 1) asked size between after result)
+    (GivesInAJob (driver_number id 0) asked size before after result × IsErr result)
+    ⊎ ((between : BlocksState) × GivesInAJob (driver_number id 0) asked size before between (Ok tt) × GivesInAJob (driver_number id 1) asked size between after result)
 
 -- A job that mounts: no block changes, and no sequence number is used.
 pub record MountsInAJob (before after : BlocksState) (result : Result (Unit {0}) BlockFault) : Type 0 where
   pub tries : Tries 3 Mounts before after result
   pub values : SameValues before after
-  pub calls : Calls before after result
+  pub calls : BlockCalls before after result
   pub never_full : NeverFull result
   pub stale : Settles result after
   pub spent : SameSpent before after
@@ -73,7 +73,7 @@ pub record MountsInAJob (before after : BlocksState) (result : Result (Unit {0})
 pub record GivesNumber (number : ℕ) (asked : Content) (size : ℕ) (before after : BlocksState) (result : Result (Unit {0}) BlockFault) : Type 0 where
   pub job : GivesInAJob number asked size before after result
   pub gives : Gives before after number asked size result
-  pub calls : Calls before after result
+  pub calls : BlockCalls before after result
   pub stale : Settles result after
   pub three : FlashTakesThree before after result
   pub named : NamesNumber number before after result
@@ -82,7 +82,7 @@ pub record GivesNumber (number : ℕ) (asked : Content) (size : ℕ) (before aft
 pub record GivesCopies (id : ℕ) (asked : Content) (size : ℕ) (before after : BlocksState) (result : Result (Unit {0}) BlockFault) : Type 0 where
   pub jobs : GivesInTwoJobs id asked size before after result
   pub gives : GivesBoth before after id asked size result
-  pub calls : Calls before after result
+  pub calls : BlockCalls before after result
   pub stale : Settles result after
   pub three : FlashTakesThree before after result
   pub named : IsErrOf result Flash → HasFailedCopy id after
@@ -109,13 +109,13 @@ GotOf copy content Invalid before after = ReadsContent content FoundInvalid befo
 -- bytes, what the first is.
 abbrev pub GotOfBoth : BlocksState → BlocksState → ℕ → Got → List ℕ → List ℕ → Type 0
 GotOfBoth before after id (Bytes length from) out_before out_after =
-    GotOf 1 (before.value (number_of id 0)) (Bytes length from) out_before out_after
-    ⊎ (GotOf 2 (before.value (number_of id 1)) (Bytes length from) out_before out_after
-    × (HasNoBytes (before.value (number_of id 0)) ⊎ HasRisenBy 3 before.device.faults after.device.faults))
-GotOfBoth before after id Missing out_before out_after = GotOf 1 (before.value (number_of id 0)) Missing out_before out_after
-    × HasNoBytes (before.value (number_of id 1))
-GotOfBoth before after id Invalid out_before out_after = GotOf 1 (before.value (number_of id 0)) Invalid out_before out_after
-    × HasNoBytes (before.value (number_of id 1))
+    GotOf 1 (before.value (driver_number id 0)) (Bytes length from) out_before out_after
+    ⊎ (GotOf 2 (before.value (driver_number id 1)) (Bytes length from) out_before out_after
+    × (HasNoBytes (before.value (driver_number id 0)) ⊎ HasRisenBy 3 before.device.faults after.device.faults))
+GotOfBoth before after id Missing out_before out_after = GotOf 1 (before.value (driver_number id 0)) Missing out_before out_after
+    × HasNoBytes (before.value (driver_number id 1))
+GotOfBoth before after id Invalid out_before out_after = GotOf 1 (before.value (driver_number id 0)) Invalid out_before out_after
+    × HasNoBytes (before.value (driver_number id 1))
 
 -- The second copy's bytes, or, where it has none, what the first gave.
 abbrev pub GotOfSecond : Content → Option Got → Got → List ℕ → List ℕ → Type 0

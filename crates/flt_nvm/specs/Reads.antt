@@ -7,7 +7,7 @@ use Rattle.flt_flash.specs.Calls.{CostsAtMost, Follows, NeverFull, NoFault, Read
 use Rattle.flt_flash.specs.declared.blocks.BlockFault.{BlockFault}
 use Rattle.flt_flash.specs.declared.blocks.BlockFault.TheVariants.{Flash, Damaged}
 use Rattle.flt_nvm.specs.declared.got.Got.{Got}
-use Rattle.flt_nvm.specs.Table.{number_of}
+use Rattle.flt_nvm.specs.Table.{driver_number}
 use Rattle.flt_nvm.specs.Tries.{Tries, Looks}
 use Rattle.flt_nvm.specs.Leaves.{FlashTakesThree, GivesInAJob, GotOf, GotOfBoth, GotOfSecond, HasFailedCopy, HasNoBytes, NamesNumber}
 
@@ -18,9 +18,9 @@ LooksInAJob number before after result = Tries 3 (Looks number) before after res
 -- A job that reads the first copy, and one at most that reads the second.
 abbrev pub LooksInTwoJobs : {T : Type 0} → ℕ → BlocksState → BlocksState → Result T BlockFault → Type 0
 LooksInTwoJobs {T} id before after result =
-    LooksInAJob (number_of id 0) before after result
-    ⊎ ((between : BlocksState) × (first : Result T BlockFault) × LooksInAJob (number_of id 0) before between first
-    × (second : Result T BlockFault) × LooksInAJob (number_of id 1) between after second)
+    LooksInAJob (driver_number id 0) before after result
+    ⊎ ((between : BlocksState) × (first : Result T BlockFault) × LooksInAJob (driver_number id 0) before between first
+    × (second : Result T BlockFault) × LooksInAJob (driver_number id 1) between after second)
 
 -- A job that reads a number, and one at most that gives it a content.
 abbrev pub MendsInTwoJobs : Type 0 → ℕ → Content → ℕ → BlocksState → BlocksState → Result (Unit {0}) BlockFault → Type 0
@@ -33,7 +33,7 @@ MendsInTwoJobs Read number asked size before after result =
 abbrev pub ReadsBothCosts : BlocksState → BlocksState → ℕ → Type 0
 ReadsBothCosts before after id =
     IsFalse before.is_stale → NoFault before after
-    → CostsAtMost (byte_pages (size_of (before.value (number_of id 0))) + byte_pages (size_of (before.value (number_of id 1)))) before after
+    → CostsAtMost (byte_pages (size_of (before.value (driver_number id 0))) + byte_pages (size_of (before.value (driver_number id 1)))) before after
 
 -- A number could not be read.
 pub record IsUnread (number : ℕ) (before after : BlocksState) : Type 0 where
@@ -43,7 +43,7 @@ pub record IsUnread (number : ℕ) (before after : BlocksState) : Type 0 where
 -- Neither copy could be read, or one could not and the other has no bytes; the last call that failed was of a copy.
 pub record IsUnreadable (before after : BlocksState) (id : ℕ) : Type 0 where
   pub copies : HasRisenBy 6 before.device.faults after.device.faults
-      ⊎ (HasRisenBy 3 before.device.faults after.device.faults × (HasNoBytes (before.value (number_of id 0)) ⊎ HasNoBytes (before.value (number_of id 1))))
+      ⊎ (HasRisenBy 3 before.device.faults after.device.faults × (HasNoBytes (before.value (driver_number id 0)) ⊎ HasNoBytes (before.value (driver_number id 1))))
   pub named : HasFailedCopy id after
 
 -- A copy could be neither read nor written, or it holds other bytes and could not be written; the last call that failed was of it.
@@ -76,14 +76,14 @@ pub record OnlyLooks {T : Type 0} (before after : BlocksState) (result : Result 
 -- A job that reads the second copy: its bytes are the answer, or where it has none what the first copy gave, or Flash where that could not be read.
 pub record ReadsSecond (id : ℕ) (before after : BlocksState) (first : Option Got) (out_before out_after : List ℕ) (result : Result Got BlockFault) : Type 0 where
   pub read : Result Got BlockFault
-  pub job : LooksInAJob (number_of id 1) before after read
-  pub got : IfOk result (λ got. GotOfSecond (before.value (number_of id 1)) first got out_before out_after)
+  pub job : LooksInAJob (driver_number id 1) before after read
+  pub got : IfOk result (λ got. GotOfSecond (before.value (driver_number id 1)) first got out_before out_after)
   pub nothing : OnErr result (out_after ≡ out_before)
   pub looks : OnlyLooks before after result
-  pub costs : ReadCosts before after (number_of id 1)
-  pub unread : IsErrOf result Flash → IsUnread (number_of id 1) before after ⊎ ((first ≡ None) × HasNoBytes (before.value (number_of id 1)))
+  pub costs : ReadCosts before after (driver_number id 1)
+  pub unread : IsErrOf result Flash → IsUnread (driver_number id 1) before after ⊎ ((first ≡ None) × HasNoBytes (before.value (driver_number id 1)))
   -- The last call that failed is the one before, or of the second copy.
-  pub named : (after.last_failed ≡ before.last_failed) ⊎ (after.last_failed ≡ Some (number_of id 1))
+  pub named : (after.last_failed ≡ before.last_failed) ⊎ (after.last_failed ≡ Some (driver_number id 1))
 
 -- One job or two that read both copies.
 pub record ReadsCopies (id : ℕ) (before after : BlocksState) (out_before out_after : List ℕ) (result : Result Got BlockFault) : Type 0 where

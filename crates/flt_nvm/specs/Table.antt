@@ -6,8 +6,8 @@ use Rattle.flt_nvm.specs.declared.table.Kind.TheVariants.{Native, Redundant, Dat
 use Rattle.flt_nvm.specs.declared.table.BlockCfg.{BlockCfg}
 
 -- The number under which the driver keeps this index, or this copy from 0, of a block.
-abbrev pub number_of : ℕ → ℕ → ℕ
-number_of id index = id * 8 + index
+abbrev pub driver_number : ℕ → ℕ → ℕ
+driver_number id index = id * 8 + index
 
 -- The block of this identifier: the first of the table.
 abbrev pub block_in : List BlockCfg → ℕ → Option BlockCfg
@@ -39,7 +39,7 @@ is_kind (Dataset indices) = nat_lt 0 indices && nat_lt indices 9
 abbrev pub is_served : List ℕ → BlockCfg → Bool
 is_served numbers block =
     nat_lt 0 block.id && nat_lt block.id 8192 && nat_lt 0 block.length && nat_lt block.length 129 && is_kind block.kind
-    && list_all (λ index. has_number numbers (number_of block.id index)) (range_with_len 0 (numbers_taken block.kind))
+    && list_all (λ index. has_number numbers (driver_number block.id index)) (range_with_len 0 (numbers_taken block.kind))
 
 -- Each block of the table is in range, and the driver was made with its numbers.
 abbrev pub serves : List ℕ → List BlockCfg → Bool

@@ -3,7 +3,7 @@ use Rattle.std.specs.Prelude.{◌⊎◌, ◌+◌, ◌≤◌, ℕ, zero, suc, Res
 use Rattle.flt_flash.specs.Content.{Content}
 use Rattle.flt_flash.specs.State.{HasRisenBy}
 use Rattle.flt_flash.specs.Blocks.{BlocksState}
-use Rattle.flt_flash.specs.Calls.{Calls, CountsCallOf, CountsMount, Changes, Costs, MountCosts, NeverFull, ReadCosts, ReadsAlone, SameSpent, SameValues, Settles}
+use Rattle.flt_flash.specs.Calls.{BlockCalls, CountsCallOf, CountsMount, Changes, Costs, MountCosts, NeverFull, ReadCosts, ReadsAlone, SameSpent, SameValues, Settles}
 use Rattle.flt_flash.specs.declared.blocks.BlockFault.{BlockFault}
 use Rattle.flt_flash.specs.declared.blocks.BlockFault.TheVariants.{Flash}
 
@@ -18,7 +18,7 @@ Tries (suc (suc more)) try before after result =
 -- One mount.
 pub record Mounts (before after : BlocksState) (result : Result (Unit {0}) BlockFault) : Type 0 where
   pub values : SameValues before after
-  pub calls : Calls before after result
+  pub calls : BlockCalls before after result
   pub once : CountsMount before after
   pub never_full : NeverFull result
   pub stale : Settles result after
@@ -28,7 +28,7 @@ pub record Mounts (before after : BlocksState) (result : Result (Unit {0}) Block
 -- One write or invalidate, which gives a block this content by a record of this length.
 pub record Changing (block : ℕ) (asked : Content) (size : ℕ) (before after : BlocksState) (result : Result (Unit {0}) BlockFault) : Type 0 where
   pub changes : Changes before after block asked size result
-  pub calls : Calls before after result
+  pub calls : BlockCalls before after result
   pub once : CountsCallOf block before after result
   pub stale : Settles result after
   pub costs : Costs before after size

@@ -35,7 +35,7 @@ impl<B: Blocks + Drop> Nvm<B> {
     ghost use Rattle.std.specs.Prelude.{◌<◌, ◌-◌, Contains, IsFalse};
     ghost use Rattle.flt_flash.specs.State.{CanArm};
     ghost use Rattle.flt_flash.specs.Calls.{ArmsDriver, PowersUpDriver, found_of};
-    ghost use Rattle.flt_nvm.specs.Table.{number_of, HasIndex, HasPlace, FitsBlock};
+    ghost use Rattle.flt_nvm.specs.Table.{driver_number, HasIndex, HasPlace, FitsBlock};
     ghost use Rattle.flt_nvm.specs.Leaves.{GivesCopies, MountsInAJob};
     ghost use Rattle.flt_nvm.specs.Reads.{ReadsCopies, ReadsSecond};
     ghost use Rattle.flt_nvm.specs.Blocks.{GivesBlock, ReadsBlock, ReadsCopy, Repairs};
@@ -66,7 +66,7 @@ impl<B: Blocks + Drop> Nvm<B> {
     /// The number under which the driver keeps an index, or a copy from 0.
     fn number(&self, id: u16, place: u8) -> u16
         requires { HasPlace (table_of self.now) id place }
-        ensures number { result ≡ number_of id place }
+        ensures number { result ≡ driver_number id place }
         ensures of_driver { Contains (driver_of self.now).numbers result }
     {
         id * 8 + place as u16
@@ -209,7 +209,7 @@ impl<B: Blocks + Drop> Nvm<B> {
         requires redundant { IsRedundant (table_of self.old) id }
         requires least_copy { 1 ≤ copy }
         requires most_copy { copy ≤ 2 }
-        requires holds { (driver_of self.old).value (number_of id (copy - 1)) ≡ holding bytes.now }
+        requires holds { (driver_of self.old).value (driver_number id (copy - 1)) ≡ holding bytes.now }
         requires least { 1 ≤ length bytes.now }
         requires fits { FitsBlock (table_of self.old) id (length bytes.now) }
         ensures { Repairs id copy (holding bytes.now) (length bytes.now) self.old self.new result }
@@ -232,7 +232,7 @@ impl<B: Blocks + Drop> Nvm<B> {
     pub fn look_up(&self, id: u16, place: u8) -> Found
         requires not_stale { IsFalse (driver_of self.now).is_stale }
         requires place { HasPlace (table_of self.now) id place }
-        ensures { result ≡ found_of ((driver_of self.now).value (number_of id place)) }
+        ensures { result ≡ found_of ((driver_of self.now).value (driver_number id place)) }
     {
         self.blocks.look_up(self.number(id, place))
     }

@@ -4,7 +4,7 @@ use Rattle.std.specs.Prelude.{OnOk, OnErr, IsErr, slice_index}
 use Rattle.std.proofs.lemmas.List.{get_or-replicate}
 use Rattle.flt_flash.specs.Image.{page_at, sector_at, programmed, erased, blank_page}
 use Rattle.flt_flash.specs.Tearing.{IsTornPage, IsTorn}
-use Rattle.flt_flash.specs.State.{FlashState, HasShape, Operates, counted}
+use Rattle.flt_flash.specs.State.{FlashState, HasShape, Operates, counted_up}
 use Rattle.flt_flash.specs.declared.flash.FlashFailed.{FlashFailed}
 use Rattle.flt_flash.proofs.TornParts.{torn_sector_of, torn_page_of}
 use Rattle.flt_flash.proofs.Following.{one_run, runs_on}
@@ -80,7 +80,7 @@ erased_page image sector page within in_sector =
     ∙ get_or-replicate (length (sector_at image sector)) page blank_page [] in_sector
 
 pub failed_to_begin : (before after : FlashState) (sector : ℕ) (asked : List ℕ) (failed : FlashFailed) (result : Result (Unit {0}) FlashFailed) → IsErr result → HasShape before → sector < 2
-    → IsTorn before.image (erased before.image sector) after.image → after.wear ≡ set before.wear sector (counted (slice_index before.wear sector))
+    → IsTorn before.image (erased before.image sector) after.image → after.wear ≡ set before.wear sector (counted_up (slice_index before.wear sector))
     → Operates {T = Unit {0}} before after (Err failed) → BeginsSector before after sector asked result
 failed_to_begin before after sector asked failed (Ok x) fails shape in_image torn wear does = absurd (cc fails)
 failed_to_begin before after sector asked failed (Err e) fails shape in_image torn wear does = record {
@@ -93,7 +93,7 @@ failed_to_begin before after sector asked failed (Err e) fails shape in_image to
 }
 
 pub begun_on : (before middle after : FlashState) (sector : ℕ) (asked : List ℕ) (result : Result (Unit {0}) FlashFailed)
-    → middle.image ≡ erased before.image sector → middle.wear ≡ set before.wear sector (counted (slice_index before.wear sector))
+    → middle.image ≡ erased before.image sector → middle.wear ≡ set before.wear sector (counted_up (slice_index before.wear sector))
     → Operates {T = Unit {0}} before middle (Ok tt) → Appends middle after sector 0 asked result → BeginsSector before after sector asked result
 begun_on before middle after sector asked (Ok x) is wear does appends = record {
   done = subst (λ (image : List (List (List ℕ))). after.image ≡ programmed image sector 0 asked) is appends.done;

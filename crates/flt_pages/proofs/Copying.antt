@@ -10,10 +10,10 @@ use Rattle.flt_flash.proofs.Following.{runs_on, one_run}
 use Rattle.flt_code.specs.Seal.{sealed}
 use Rattle.flt_code.specs.Word.{word_bytes}
 use Rattle.flt_code.specs.declared.words.Word.TheVariants.{Head, Gate}
-use Rattle.flt_pages.specs.Append.{Appends, AppendsPiece, filled}
+use Rattle.flt_pages.specs.Append.{Appends, AppendsPiece, padded_page}
 use Rattle.flt_pages.specs.declared.place.RecordPlace.{RecordPlace}
 use Rattle.flt_pages.specs.Blank.{AreBlank}
-use Rattle.flt_pages.specs.RecordPlace.{record_at, IsPlaceWithin, bytes_at}
+use Rattle.flt_pages.specs.RecordPlace.{record_at, IsPlaceWithin, record_bytes_at}
 use Rattle.flt_pages.specs.Record.{KeptApart}
 use Rattle.flt_pages.specs.Recorded.{OnSector, Fills, Records}
 use Rattle.flt_pages.proofs.Filling.{Filled}
@@ -32,9 +32,9 @@ module _ (before middle now : FlashState) (shape : HasShape before) (shape_now :
     (reads : OnlyReads middle now) (on : OnSector before middle other (sector_at middle.image other))
     (kept : KeptApart (sector_at before.image other) (sector_at middle.image other) first (first + index)) where
   abbrev bytes : List ℕ
-  bytes = bytes_at (sector_at before.image sector) place
+  bytes = record_bytes_at (sector_at before.image sector) place
 
-  long : length (bytes_at (sector_at before.image sector) place) ≡ place.length
+  long : length (record_bytes_at (sector_at before.image sector) place) ≡ place.length
   long = bytes_size (sector_at before.image sector) (shape.bytes sector in_sector) (record_at 0 place) (omega (arith, within.below, shape.pages sector in_sector))
 
   on_read : OnSector before now other (sector_at now.image other)
@@ -47,10 +47,10 @@ module _ (before middle now : FlashState) (shape : HasShape before) (shape_now :
   kept_read : KeptApart (sector_at before.image other) (sector_at now.image other) first (first + index)
   kept_read = subst (λ (image : List (List (List ℕ))). KeptApart (sector_at before.image other) (sector_at image other) first (first + index)) (sym reads.image) kept
 
-  room_bytes : first + byte_pages (length (bytes_at (sector_at before.image sector) place)) ≤ before.pages
+  room_bytes : first + byte_pages (length (record_bytes_at (sector_at before.image sector) place)) ≤ before.pages
   room_bytes = omega (arith, room, long)
 
-  more_bytes : index < byte_pages (length (bytes_at (sector_at before.image sector) place))
+  more_bytes : index < byte_pages (length (record_bytes_at (sector_at before.image sector) place))
   more_bytes = omega (arith, more, long)
 
   pub copy_unread : (result : Result (Unit {0}) FlashFailed) → IsErr result → HasRisenBy 1 middle.faults now.faults → Fills before now other first bytes result
@@ -69,45 +69,45 @@ module _ (before middle now : FlashState) (shape : HasShape before) (shape_now :
       piece_failed bytes index (omega (arith, shape.sectors, in_other)) more_bytes on_read kept_read (lays is) is.operation.cause result fails
 
   ends : (32 * index + min 32 (place.length - 32 * index) ≡ 32 * index + 32)
-      ⊎ ((32 * index + min 32 (place.length - 32 * index) ≡ length (bytes_at (sector_at before.image sector) place)) × (length (bytes_at (sector_at before.image sector) place) < 32 * index + 32))
+      ⊎ ((32 * index + min 32 (place.length - 32 * index) ≡ length (record_bytes_at (sector_at before.image sector) place)) × (length (record_bytes_at (sector_at before.image sector) place) < 32 * index + 32))
   ends = elim (cases_lt (place.length - 32 * index) 32) [ inl short ↦ inr (omega (arith, long), omega (arith, long)) | inr full ↦ inl (omega arith) ]
 
   -- The page that was read is the piece.
-  piece : slice_range (bytes_at (sector_at before.image sector) place) (32 * index) (32 * index + min 32 (place.length - 32 * index)) ≡ take (min 32 (place.length - 32 * index)) (page_at before.image sector (place.page + 1 + index))
+  piece : slice_range (record_bytes_at (sector_at before.image sector) place) (32 * index) (32 * index + min 32 (place.length - 32 * index)) ≡ take (min 32 (place.length - 32 * index)) (page_at before.image sector (place.page + 1 + index))
   piece = piece_behind (sector_at before.image sector) (shape.bytes sector in_sector) (record_at 0 place) (omega (arith, within.below, shape.pages sector in_sector)) index (min 32 (place.length - 32 * index)) (omega arith) more (omega arith)
 
   pub copied : (after : FlashState) (size : ℕ) (page : List ℕ) → Filled (sector_at middle.image other) first bytes index → size ≡ min 32 (place.length - 32 * index)
-      → page ≡ page_at middle.image sector (place.page + 1 + index) → AppendsPiece {T = Unit {0}} now after other (first + index) (filled (take size page)) (Ok tt)
-      → FillsUpTo before after other first (bytes_at (sector_at before.image sector) place) (index + 1)
+      → page ≡ page_at middle.image sector (place.page + 1 + index) → AppendsPiece {T = Unit {0}} now after other (first + index) (padded_page (take size page)) (Ok tt)
+      → FillsUpTo before after other first (record_bytes_at (sector_at before.image sector) place) (index + 1)
   copied after size page fills sized found is =
       let source = other_stays before middle sector other (sector_at middle.image other) apart on in
       let from = found ∙ ap (λ (pages : List (List ℕ)). get_or pages (place.page + 1 + index) []) source in
       let asked : take size page ≡ slice_range bytes (32 * index) (32 * index + min 32 (place.length - 32 * index)) = (λ i. take (sized i) (from i)) ∙ sym piece in
       let fills_read = subst (λ (image : List (List (List ℕ))). Filled (sector_at image other) first bytes index) (sym reads.image) fills in
       piece_laid bytes index (omega (arith, shape.sectors, in_other)) more_bytes on_read kept_read (lays is) (32 * index + min 32 (place.length - 32 * index)) ends
-      (omega (arith, room_bytes, shape.pages other in_other)) fills_read ((lays is).done ∙ ap filled asked)
+      (omega (arith, room_bytes, shape.pages other in_other)) fills_read ((lays is).done ∙ ap padded_page asked)
 
 -- Head, bytes and gate.
 module _ (before : FlashState) (shape : HasShape before) (sector other page block : ℕ) (place : RecordPlace)
     (in_sector : sector < 2) (in_other : other < 2) (apart : other ≢ sector) (within : IsPlaceWithin before.pages place) (room : page + record_pages place.length ≤ before.pages)
     (blank : AreBlank (sector_at before.image other) page (page + record_pages place.length)) where
   abbrev source : List ℕ
-  source = bytes_at (sector_at before.image sector) place
+  source = record_bytes_at (sector_at before.image sector) place
 
   abbrev head : List ℕ
   head = sealed (word_bytes (Head block place.length place.valid page))
 
-  size : length (bytes_at (sector_at before.image sector) place) ≡ place.length
+  size : length (record_bytes_at (sector_at before.image sector) place) ≡ place.length
   size = bytes_size (sector_at before.image sector) (shape.bytes sector in_sector) (record_at 0 place) (omega (arith, within.below, shape.pages sector in_sector))
 
-  room_source : page + 2 + byte_pages (length (bytes_at (sector_at before.image sector) place)) ≤ before.pages
+  room_source : page + 2 + byte_pages (length (record_bytes_at (sector_at before.image sector) place)) ≤ before.pages
   room_source = omega (arith, room, size)
 
-  blank_source : AreBlank (sector_at before.image other) page (page + 2 + byte_pages (length (bytes_at (sector_at before.image sector) place)))
+  blank_source : AreBlank (sector_at before.image other) page (page + 2 + byte_pages (length (record_bytes_at (sector_at before.image sector) place)))
   blank_source k low high = blank k low (omega (arith, high, size))
 
   head_of : {T : Type 0} (after : FlashState) (result : Result T FlashFailed) → Appends before after other page head result
-      → Appends before after other page (sealed (word_bytes (Head block (length (bytes_at (sector_at before.image sector) place)) place.valid page))) result
+      → Appends before after other page (sealed (word_bytes (Head block (length (record_bytes_at (sector_at before.image sector) place)) place.valid page))) result
   head_of after result is = subst (λ n. Appends before after other page (sealed (word_bytes (Head block n place.valid page))) result) (sym size) is
 
   pub copy_head_failed : (after : FlashState) (failed : FlashFailed) (result : Result (Unit {0}) FlashFailed) → IsErr result → Appends {T = Unit {0}} before after other page head (Err failed)
@@ -116,16 +116,16 @@ module _ (before : FlashState) (shape : HasShape before) (sector other page bloc
 
   -- The head is whole.
   module _ (middle : FlashState) (shape_middle : HasShape middle) (headed : Appends {T = Unit {0}} before middle other page head (Ok tt)) where
-    same_source : bytes_at (sector_at middle.image sector) place ≡ bytes_at (sector_at before.image sector) place
-    same_source = ap (λ (pages : List (List ℕ)). bytes_at pages place)
+    same_source : record_bytes_at (sector_at middle.image sector) place ≡ record_bytes_at (sector_at before.image sector) place
+    same_source = ap (λ (pages : List (List ℕ)). record_bytes_at pages place)
         (other_stays before middle sector other (set (sector_at before.image other) page head) apart (record { image = headed.done; wear = headed.wear; runs = one_run headed.operation }))
 
-    fills_of : {T : Type 0} (after : FlashState) (result : Result T FlashFailed) → Fills middle after other (page + 1) (bytes_at (sector_at middle.image sector) place) result
-        → Fills middle after other (page + 1) (bytes_at (sector_at before.image sector) place) result
+    fills_of : {T : Type 0} (after : FlashState) (result : Result T FlashFailed) → Fills middle after other (page + 1) (record_bytes_at (sector_at middle.image sector) place) result
+        → Fills middle after other (page + 1) (record_bytes_at (sector_at before.image sector) place) result
     fills_of after result is = subst (λ (bytes : List ℕ). Fills middle after other (page + 1) bytes result) same_source is
 
     pub copy_fill_failed : (after : FlashState) (failed : FlashFailed) (result : Result (Unit {0}) FlashFailed) → IsErr result
-        → Fills {T = Unit {0}} middle after other (page + 1) (bytes_at (sector_at middle.image sector) place) (Err failed) → Records before after other page block source place.valid result
+        → Fills {T = Unit {0}} middle after other (page + 1) (record_bytes_at (sector_at middle.image sector) place) (Err failed) → Records before after other page block source place.valid result
     copy_fill_failed after failed result fails is =
         fill_failed before shape other page block source place.valid in_other room_source blank_source middle shape_middle (head_of middle (Ok tt) headed) after failed result fails (fills_of after (Err failed) is)
 
@@ -135,12 +135,12 @@ module _ (before : FlashState) (shape : HasShape before) (sector other page bloc
         subst (λ n. AreBlank (sector_at middle.image other) (page + 1) (page + 1 + byte_pages n)) size
         (bytes_blank before shape other page block source place.valid in_other room_source blank_source middle shape_middle (head_of middle (Ok tt) headed))
 
-    pub gate_blank : (full : FlashState) → Fills {T = Unit {0}} middle full other (page + 1) (bytes_at (sector_at middle.image sector) place) (Ok tt) → page_at full.image other (page + 1 + byte_pages place.length) ≡ blank_page
+    pub gate_blank : (full : FlashState) → Fills {T = Unit {0}} middle full other (page + 1) (record_bytes_at (sector_at middle.image sector) place) (Ok tt) → page_at full.image other (page + 1 + byte_pages place.length) ≡ blank_page
     gate_blank full is =
         subst (λ n. page_at full.image other (page + 1 + byte_pages n) ≡ blank_page) size
         (blank_at_gate before shape other page block source place.valid in_other room_source blank_source middle shape_middle (head_of middle (Ok tt) headed) full (fills_of full (Ok tt) is))
 
-    pub copy_gated : (full after : FlashState) (result : Result (Unit {0}) FlashFailed) → Fills {T = Unit {0}} middle full other (page + 1) (bytes_at (sector_at middle.image sector) place) (Ok tt)
+    pub copy_gated : (full after : FlashState) (result : Result (Unit {0}) FlashFailed) → Fills {T = Unit {0}} middle full other (page + 1) (record_bytes_at (sector_at middle.image sector) place) (Ok tt)
         → Appends full after other (page + 1 + byte_pages place.length) (sealed (word_bytes (Gate block page))) result → Records before after other page block source place.valid result
     copy_gated full after result is gated =
         gate_laid before shape other page block source place.valid in_other room_source blank_source middle shape_middle (head_of middle (Ok tt) headed) full after result (fills_of full (Ok tt) is)

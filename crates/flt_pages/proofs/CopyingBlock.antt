@@ -12,9 +12,9 @@ use Rattle.flt_flash.proofs.Following.{no_run}
 use Rattle.flt_code.specs.Word.{IsWord, is_length}
 use Rattle.flt_code.specs.declared.words.Word.TheVariants.{Head}
 use Rattle.flt_pages.specs.declared.place.RecordPlace.{RecordPlace}
-use Rattle.flt_pages.specs.LogHolds.{LogHolds, asked_of, given}
+use Rattle.flt_pages.specs.LogHolds.{LogHolds, record_content, given}
 use Rattle.flt_pages.specs.Live.{held_in}
-use Rattle.flt_pages.specs.RecordPlace.{record_at, IsPlaceWithin, IsAt, IsPlaceOf, bytes_at}
+use Rattle.flt_pages.specs.RecordPlace.{record_at, IsPlaceWithin, IsAt, IsPlaceOf, record_bytes_at}
 use Rattle.flt_pages.proofs.Recording.{pages_on}
 use Rattle.flt_pages.proofs.Telling.{new_at}
 use Rattle.flt_pages.specs.Record.{KeptApart, IsWhole, RecordLeft}
@@ -81,21 +81,21 @@ module _ (used : ℕ) (numbers : List ℕ) (before : FlashState) (shape : HasSha
       others = λ k within apart. refl;
     }
       where
-        by_valid : (valid : Bool) (held : List ℕ) → ◌≡◌ {A = Content} missing (asked_of valid held) → ⊥
+        by_valid : (valid : Bool) (held : List ℕ) → ◌≡◌ {A = Content} missing (record_content valid held) → ⊥
         by_valid true held same = cc same
         by_valid false held same = cc same
 
         by_place : (found : Option RecordPlace) → IsAt (sector_at before.image sector) used (held_in used numbers (sector_at before.image sector) number) found
             → IsAt (sector_at before.image other) end (held_in used numbers (sector_at before.image sector) number) found
         by_place None at = record { holds = nothing; inside = tt }
-        by_place (Some place) at = absurd (by_valid place.valid (bytes_at (sector_at before.image sector) place) (sym nothing ∙ at.holds))
+        by_place (Some place) at = absurd (by_valid place.valid (record_bytes_at (sector_at before.image sector) place) (sym nothing ∙ at.holds))
 
   -- A block with a record.
   module _ (place : RecordPlace) (is : IsAt (sector_at before.image sector) used (held_in used numbers (sector_at before.image sector) number) (Some place)) where
     pub within : IsPlaceWithin used place
     within = is.inside.within
 
-    size : length (bytes_at (sector_at before.image sector) place) ≡ place.length
+    size : length (record_bytes_at (sector_at before.image sector) place) ≡ place.length
     size = bytes_size source (shape.bytes sector in_sector) (record_at 0 place) (omega (arith, within.below, most, shape.pages sector in_sector))
 
     pub content_size : pages_of (held_in used numbers (sector_at before.image sector) number) ≡ record_pages place.length
@@ -104,15 +104,15 @@ module _ (used : ℕ) (numbers : List ℕ) (before : FlashState) (shape : HasSha
     pub place_room : end + record_pages place.length ≤ used
     place_room = omega (arith, room, content_size)
 
-    kind : is_length place.valid (length (bytes_at (sector_at before.image sector) place)) ≡ true
+    kind : is_length place.valid (length (record_bytes_at (sector_at before.image sector) place)) ≡ true
     kind = ap (is_length place.valid) size ∙ within.kind
 
-    module _ (after : FlashState) (result : Result (Unit {0}) FlashFailed) (does : Records before after other end number (bytes_at (sector_at before.image sector) place) place.valid result) where
+    module _ (after : FlashState) (result : Result (Unit {0}) FlashFailed) (does : Records before after other end number (record_bytes_at (sector_at before.image sector) place) place.valid result) where
       gates_of_both : KeepsGates (sector_at before.image other) does.pages
-      gates_of_both = left_gates (sector_at before.image other) does.pages end number (bytes_at (sector_at before.image sector) place) place.valid begun does.left
+      gates_of_both = left_gates (sector_at before.image other) does.pages end number (record_bytes_at (sector_at before.image sector) place) place.valid begun does.left
 
       stays_below : (k : ℕ) → k < end → get_or does.pages k [] ≡ get_or (sector_at before.image other) k []
-      stays_below k lt = (left_apart (sector_at before.image other) does.pages end number (bytes_at (sector_at before.image sector) place) place.valid does.left).1.before k lt
+      stays_below k lt = (left_apart (sector_at before.image other) does.pages end number (record_bytes_at (sector_at before.image sector) place) place.valid does.left).1.before k lt
 
       pub block_torn : (told : Result ℕ FlashFailed) → IsErr told → HasRisenBy 1 before.faults after.faults → CopiesBlock before after sector other used numbers number end told
       block_torn (Ok x) fails rose = absurd (cc fails)
@@ -120,24 +120,24 @@ module _ (used : ℕ) (numbers : List ℕ) (before : FlashState) (shape : HasSha
           record { written = record { pages = does.pages; on = does.on; gates = gates_of_both; cause = rose }; stays = stays_below; place = tt; holds = tt }
 
       module _ (last : ℕ) (ok : result ≡ Ok tt) (ends : last ≡ end + (2 + byte_pages place.length)) where
-        whole : IsWhole (sector_at before.image other) does.pages end number (bytes_at (sector_at before.image sector) place) place.valid
-        whole = subst (λ (r : Result (Unit {0}) FlashFailed). OnOk r (IsWhole (sector_at before.image other) does.pages end number (bytes_at (sector_at before.image sector) place) place.valid)) ok does.done
+        whole : IsWhole (sector_at before.image other) does.pages end number (record_bytes_at (sector_at before.image sector) place) place.valid
+        whole = subst (λ (r : Result (Unit {0}) FlashFailed). OnOk r (IsWhole (sector_at before.image other) does.pages end number (record_bytes_at (sector_at before.image sector) place) place.valid)) ok does.done
 
-        far : end + (2 + byte_pages (length (bytes_at (sector_at before.image sector) place))) ≡ last
+        far : end + (2 + byte_pages (length (record_bytes_at (sector_at before.image sector) place))) ≡ last
         far = omega (arith, size, ends)
 
         pub block_copied : CopiesBlock before after sector other used numbers number end (Ok last)
         block_copied =
             let short = length_most place.valid place.length within.kind in
-            let proper : IsWord (Head number (length (bytes_at (sector_at before.image sector) place)) place.valid end) = (small, omega (arith, size, short), omega (arith, place_room, fits), kind) in
+            let proper : IsWord (Head number (length (record_bytes_at (sector_at before.image sector) place)) place.valid end) = (small, omega (arith, size, short), omega (arith, place_room, fits), kind) in
             record {
               written = record { pages = does.pages; on = does.on; gates = gates_of_both; cause = tt };
               stays = stays_below;
               place = omega (arith, ends, content_size);
               holds = λ value unset holds.
                   subst (λ (c : Content). LogHolds used numbers does.pages last (given number c value)) (sym is.holds)
-                  (subst (λ n. LogHolds used numbers does.pages n (given number (asked_of place.valid (bytes_at (sector_at before.image sector) place)) value)) far
-                  (whole_record used numbers (sector_at before.image other) does.pages end value least holds number (bytes_at (sector_at before.image sector) place) place.valid proper (proper.0, proper.2)
+                  (subst (λ n. LogHolds used numbers does.pages n (given number (record_content place.valid (record_bytes_at (sector_at before.image sector) place)) value)) far
+                  (whole_record used numbers (sector_at before.image other) does.pages end value least holds number (record_bytes_at (sector_at before.image sector) place) place.valid proper (proper.0, proper.2)
                   (is_among numbers number member) (omega (arith, size, place_room)) whole));
             }
 
@@ -159,6 +159,6 @@ module _ (used : ℕ) (numbers : List ℕ) (before : FlashState) (shape : HasSha
             copy_at =
                 subst (λ (pages : List (List ℕ)). IsAt pages last (held_in used numbers (sector_at before.image sector) number) (Some (record { page = end; length = place.length; valid = place.valid }))) (sym there)
                 (subst (λ n. IsAt does.pages last (held_in used numbers (sector_at before.image sector) number) (Some (record { page = end; length = n; valid = place.valid }))) size
-                (subst (λ (c : Content). IsAt does.pages last c (Some (record { page = end; length = length (bytes_at (sector_at before.image sector) place); valid = place.valid }))) (sym is.holds)
-                (subst (λ n. IsAt does.pages n (asked_of place.valid (bytes_at (sector_at before.image sector) place)) (Some (record { page = end; length = length (bytes_at (sector_at before.image sector) place); valid = place.valid }))) far
-                (new_at (sector_at before.image other) does.pages end number (bytes_at (sector_at before.image sector) place) place.valid begun kind whole))))
+                (subst (λ (c : Content). IsAt does.pages last c (Some (record { page = end; length = length (record_bytes_at (sector_at before.image sector) place); valid = place.valid }))) (sym is.holds)
+                (subst (λ n. IsAt does.pages n (record_content place.valid (record_bytes_at (sector_at before.image sector) place)) (Some (record { page = end; length = length (record_bytes_at (sector_at before.image sector) place); valid = place.valid }))) far
+                (new_at (sector_at before.image other) does.pages end number (record_bytes_at (sector_at before.image sector) place) place.valid begun kind whole))))

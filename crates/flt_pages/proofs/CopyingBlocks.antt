@@ -27,7 +27,7 @@ use Rattle.flt_pages.proofs.Counting.{unnumbered}
 use Rattle.flt_pages.proofs.LogOn.{end_least, blank_behind}
 use Rattle.flt_pages.proofs.Recording.{on_sector, pages_on}
 use Rattle.flt_pages.specs.Next.{IsLeastFrom}
-use Rattle.flt_pages.specs.Switch.{below, KeepsGates, CopiesBlock, CopiesBlocks, Replaces}
+use Rattle.flt_pages.specs.Switch.{copied_below, KeepsGates, CopiesBlock, CopiesBlocks, Replaces}
 use Rattle.flt_pages.proofs.CopyingBlock.{same_kept}
 
 -- Sums of the pages of what is copied.
@@ -45,38 +45,38 @@ sum_grows f g less n pages more (x ∷ xs) (suc k) within here =
 
 -- What is copied so far.
 module _ (value : ℕ → Content) where
-  below_in : (from block : ℕ) → block < from → below from value block ≡ value block
+  below_in : (from block : ℕ) → block < from → copied_below from value block ≡ value block
   below_in from block lt = ap (λ b. if b then value block else missing) (lt-ltb block from lt)
 
-  below_out : (from block : ℕ) → from ≤ block → below from value block ≡ missing
+  below_out : (from block : ℕ) → from ≤ block → copied_below from value block ≡ missing
   below_out from block le = ap (λ b. if b then value block else missing) (le-ltb block from le)
 
-  below_less : (from to : ℕ) → from ≤ to → (block : ℕ) → pages_of (below from value block) ≤ pages_of (below to value block)
+  below_less : (from to : ℕ) → from ≤ to → (block : ℕ) → pages_of (copied_below from value block) ≤ pages_of (copied_below to value block)
   below_less from to le block = elim (cases_lt block from) [
     | inl lt ↦ omega (arith, ap pages_of (below_in from block lt), ap pages_of (below_in to block (omega arith)))
     | inr out ↦ omega (arith, ap pages_of (below_out from block out))
   ]
 
-  below_all : (from : ℕ) (block : ℕ) → pages_of (below from value block) ≤ pages_of (value block)
+  below_all : (from : ℕ) (block : ℕ) → pages_of (copied_below from value block) ≤ pages_of (value block)
   below_all from block = elim (cases_lt block from) [
     | inl lt ↦ omega (arith, ap pages_of (below_in from block lt))
     | inr out ↦ omega (arith, ap pages_of (below_out from block out))
   ]
 
-  pub sum_all : (from : ℕ) (numbers : List ℕ) → sum_by (λ n. pages_of (below from value n)) numbers ≤ sum_by (λ n. pages_of (value n)) numbers
+  pub sum_all : (from : ℕ) (numbers : List ℕ) → sum_by (λ n. pages_of (copied_below from value n)) numbers ≤ sum_by (λ n. pages_of (value n)) numbers
   sum_all from [] = omega arith
-  sum_all from (x ∷ xs) = omega (arith, sum_by-cons (λ n. pages_of (below from value n)) x xs, sum_by-cons (λ n. pages_of (value n)) x xs, below_all from x, sum_all from xs)
+  sum_all from (x ∷ xs) = omega (arith, sum_by-cons (λ n. pages_of (copied_below from value n)) x xs, sum_by-cons (λ n. pages_of (value n)) x xs, below_all from x, sum_all from xs)
 
   pub sum_next : (from number : ℕ) (numbers : List ℕ) → from ≤ number → Contains numbers number
-      → sum_by (λ n. pages_of (below from value n)) numbers + pages_of (value number) ≤ sum_by (λ n. pages_of (below (number + 1) value n)) numbers
-  sum_next from number numbers le (k, within, here) = sum_grows (λ n. pages_of (below from value n)) (λ n. pages_of (below (number + 1) value n)) (below_less from (number + 1) (omega arith)) number (pages_of (value number))
+      → sum_by (λ n. pages_of (copied_below from value n)) numbers + pages_of (value number) ≤ sum_by (λ n. pages_of (copied_below (number + 1) value n)) numbers
+  sum_next from number numbers le (k, within, here) = sum_grows (λ n. pages_of (copied_below from value n)) (λ n. pages_of (copied_below (number + 1) value n)) (below_less from (number + 1) (omega arith)) number (pages_of (value number))
       (omega (arith, ap pages_of (below_out from number le), ap pages_of (below_in (number + 1) number (omega arith)))) numbers k within here
 
   -- The blocks between one number and the next are none.
-  pub given_next : (from number : ℕ) → from ≤ number → ((block : ℕ) → from ≤ block → block < number → value block ≡ missing) → (block : ℕ) → given number (value number) (below from value) block ≡ below (number + 1) value block
+  pub given_next : (from number : ℕ) → from ≤ number → ((block : ℕ) → from ≤ block → block < number → value block ≡ missing) → (block : ℕ) → given number (value number) (copied_below from value) block ≡ copied_below (number + 1) value block
   given_next from number le none block = by_test (number == block) refl
     where
-      by_test : (test : Bool) → test ≡ (number == block) → (if test then value number else below from value block) ≡ below (number + 1) value block
+      by_test : (test : Bool) → test ≡ (number == block) → (if test then value number else copied_below from value block) ≡ copied_below (number + 1) value block
       by_test true is = (let one : number ≡ block = eqb-true number block (sym is) in ap value one ∙ sym (below_in (number + 1) block (omega (arith, one))))
       by_test false is = elim (cases_lt block from) [
         | inl lt ↦ below_in from block lt ∙ sym (below_in (number + 1) block (omega arith))
@@ -96,8 +96,8 @@ no_number numbers block apart = false_from_ne_true _ (λ is.
 pub record Copying (used : ℕ) (numbers : List ℕ) (start now : FlashState) (sector other end from : ℕ) : Type 0 where
   pub on : OnSector start now other (sector_at now.image other)
   pub gates : KeepsGates (sector_at start.image other) (sector_at now.image other)
-  pub holds : LogHolds used numbers (sector_at now.image other) end (below from (held_in used numbers (sector_at start.image sector)))
-  pub room : end ≤ 2 + sum_by (λ n. pages_of (below from (held_in used numbers (sector_at start.image sector)) n)) numbers
+  pub holds : LogHolds used numbers (sector_at now.image other) end (copied_below from (held_in used numbers (sector_at start.image sector)))
+  pub room : end ≤ 2 + sum_by (λ n. pages_of (copied_below from (held_in used numbers (sector_at start.image sector)) n)) numbers
 
 -- The places of the numbers below one are in the log of the other sector, which ends here, and the others are where they were.
 pub record Moves (numbers : List ℕ) (places : List (Option RecordPlace)) (start now : FlashState) (sector other used end from : ℕ) (value : ℕ → Content) : Type 0 where
@@ -178,17 +178,17 @@ module _ (used : ℕ) (numbers : List ℕ) (start : FlashState) (shape : HasShap
       pub block_done : (after : FlashState) (last : ℕ) → CopiesBlock now after sector other used numbers number end (Ok last) → Copying used numbers start after sector other last (number + 1)
       block_done after last does =
           let there = pages_on now after other does.written.pages shape_now in_other does.written.on in
-          let here = does.holds (below from value) (below_out value from number next.found.1) is.holds in
+          let here = does.holds (copied_below from value) (below_out value from number next.found.1) is.holds in
           let same = given_next value from number next.found.1 (none_between from number next) in
-          let holds : LogHolds used numbers does.written.pages last (below (number + 1) (held_in used numbers (sector_at start.image sector))) = record {
+          let holds : LogHolds used numbers does.written.pages last (copied_below (number + 1) (held_in used numbers (sector_at start.image sector))) = record {
             entries = here.entries;
             is = here.is;
-            gives = λ block. here.gives block ∙ ap (λ (c : Content). given number c (below from value) block) (content_now number) ∙ same block;
+            gives = λ block. here.gives block ∙ ap (λ (c : Content). given number c (copied_below from value) block) (content_now number) ∙ same block;
           } in
           record {
             on = subst (λ (pages : List (List ℕ)). OnSector start after other pages) (sym there) (joined after does.written.pages does.written.on);
             gates = subst (λ (pages : List (List ℕ)). KeepsGates (sector_at start.image other) pages) (sym there) (kept does.written.pages does.written.gates);
-            holds = subst (λ (pages : List (List ℕ)). LogHolds used numbers pages last (below (number + 1) (held_in used numbers (sector_at start.image sector)))) (sym there) holds;
+            holds = subst (λ (pages : List (List ℕ)). LogHolds used numbers pages last (copied_below (number + 1) (held_in used numbers (sector_at start.image sector)))) (sym there) holds;
             room = omega (arith, does.place, is.room, ap pages_of (content_now number), sum_next value from number numbers next.found.1 next.found.0);
           }
 
@@ -214,7 +214,7 @@ module _ (used : ℕ) (numbers : List ℕ) (start : FlashState) (shape : HasShap
           | inr apart ↦
               subst (λ (place : Option RecordPlace). IsAt (sector_at after.image other) last (value (get_or numbers k 0)) place) (sym (replaces.others k within apart))
               (farther_at (sector_at after.image other) end last (omega (arith, does.place)) (value (get_or numbers k 0)) (get_or places k None)
-              (still_at (sector_at now.image other) (sector_at after.image other) end size (λ j low below. ap (λ (p : List (List ℕ)). get_or p j []) there ∙ does.stays j below) (value (get_or numbers k 0)) (get_or places k None)
+              (still_at (sector_at now.image other) (sector_at after.image other) end size (λ j low copied_below. ap (λ (p : List (List ℕ)). get_or p j []) there ∙ does.stays j copied_below) (value (get_or numbers k 0)) (get_or places k None)
               (moves.moved k within (lower k within lt apart))))
         ];
         waits = λ k within le.

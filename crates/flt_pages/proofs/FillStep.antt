@@ -9,7 +9,7 @@ use Rattle.flt_flash.specs.Blocks.{byte_pages}
 use Rattle.flt_pages.specs.Record.{KeptApart}
 use Rattle.flt_pages.proofs.Steps.{set_apart, apart_on, wider}
 use Rattle.flt_pages.proofs.Filling.{Filled, filled_more, ones_behind}
-use Rattle.flt_pages.specs.Append.{AppendsPiece, filled}
+use Rattle.flt_pages.specs.Append.{AppendsPiece, padded_page}
 use Rattle.flt_pages.specs.Recorded.{OnSector, Fills}
 use Rattle.flt_pages.proofs.Recording.{on_sector, sector_given}
 
@@ -59,7 +59,7 @@ module _ {before now after : FlashState} {sector first : ℕ} (bytes : List ℕ)
   }
 
   pub piece_laid : (end : ℕ) → (end ≡ 32 * index + 32) ⊎ ((end ≡ length bytes) × (length bytes < 32 * index + 32)) → first + byte_pages (length bytes) ≤ length (sector_at before.image sector)
-      → Filled (sector_at now.image sector) first bytes index → is.laid ≡ filled (slice_range bytes (32 * index) end) → FillsUpTo before after sector first bytes (index + 1)
+      → Filled (sector_at now.image sector) first bytes index → is.laid ≡ padded_page (slice_range bytes (32 * index) end) → FillsUpTo before after sector first bytes (index + 1)
   piece_laid end ends room fills laid =
       let there = sector_given before after sector longer within on_longer in
       record {

@@ -12,7 +12,7 @@ use Rattle.flt_flash.specs.Blocks.{byte_pages}
 use Rattle.flt_sector_model.specs.Log.{Entry}
 use Rattle.flt_sector_model.specs.Blocks.{content_of, last_complete}
 use Rattle.flt_pages.specs.Record.{KeptApart, IsTornAtHead, IsOpen, IsWhole, RecordLeft}
-use Rattle.flt_pages.specs.LogHolds.{LogHolds, asked_of, given}
+use Rattle.flt_pages.specs.LogHolds.{LogHolds, record_content, given}
 use Rattle.flt_sector_model.specs.declared.log.Item.TheVariants.{Torn, Kept}
 use Rattle.flt_pages.proofs.BlankPages.{blank_from_test}
 use Rattle.flt_pages.proofs.LogOn.{log_same, log_more, end_least, blank_behind, all_below}
@@ -70,7 +70,7 @@ module _ (used : ℕ) (numbers : List ℕ) (pages after : List (List ℕ)) (end 
           gives = λ other. ap (content_of after) (last_more other holds.entries entry) ∙ kept (end + 2 + byte_pages (length held)) is.apart other;
         }
 
-    pub whole_record : IsWhole pages after end block held valid → LogHolds used numbers after (end + (2 + byte_pages (length held))) (given block (asked_of valid held) value)
+    pub whole_record : IsWhole pages after end block held valid → LogHolds used numbers after (end + (2 + byte_pages (length held))) (given block (record_content valid held) value)
     whole_record is =
         let entry : Entry = record { page = end; block = block; length = length held; valid = valid; complete = true } in
         record {
@@ -82,13 +82,13 @@ module _ (used : ℕ) (numbers : List ℕ) (pages after : List (List ℕ)) (end 
         }
       where
         by_test : {other : ℕ} (test : Bool) → content_of after (last_complete other holds.entries) ≡ value other
-            → content_of after (if test then Some (record { page = end; block = block; length = length held; valid = valid; complete = true }) else last_complete other holds.entries) ≡ (if test then asked_of valid held else value other)
+            → content_of after (if test then Some (record { page = end; block = block; length = length held; valid = valid; complete = true }) else last_complete other holds.entries) ≡ (if test then record_content valid held else value other)
         by_test false same = same
         by_test true same = ap (λ (l : List ℕ). if valid then bytes l else invalid) is.holds
 
     -- Whatever a cut leaves, the log holds the old values or the new ones.
     pub left_record : RecordLeft pages after end block held valid
-        → ((last : ℕ) × LogHolds used numbers after last value) ⊎ ((last : ℕ) × LogHolds used numbers after last (given block (asked_of valid held) value))
+        → ((last : ℕ) × LogHolds used numbers after last value) ⊎ ((last : ℕ) × LogHolds used numbers after last (given block (record_content valid held) value))
     left_record (inl torn) = inl (torn_head torn (omega arith))
     left_record (inr (inl stands)) = inl (last, open_record stands)
     left_record (inr (inr whole)) = inr (last, whole_record whole)

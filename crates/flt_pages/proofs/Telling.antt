@@ -7,7 +7,7 @@ use Rattle.flt_flash.specs.Content.{Content, missing}
 use Rattle.flt_flash.specs.Blocks.{byte_pages, pages_of}
 use Rattle.flt_code.specs.Word.{is_length}
 use Rattle.flt_pages.specs.declared.place.RecordPlace.{RecordPlace}
-use Rattle.flt_pages.specs.LogHolds.{asked_of, given}
+use Rattle.flt_pages.specs.LogHolds.{record_content, given}
 use Rattle.flt_pages.specs.RecordPlace.{record_at, IsInLog, IsAt, IsPlaceOf, TellsPlaces, content_at, pages_found}
 use Rattle.flt_pages.specs.Record.{IsWhole}
 use Rattle.flt_pages.proofs.Finding.{found_pages, inside_on}
@@ -21,7 +21,7 @@ farther_at pages end last on content found is = record { holds = is.holds; insid
 module _ (pages after : List (List ℕ)) (end : ℕ) (size : length after ≡ length pages) (agree : (k : ℕ) → 2 ≤ k → k < end → get_or after k [] ≡ get_or pages k []) where
   same_held : (found : Option RecordPlace) → IfSome found (λ place. IsInLog end place) → content_at after found ≡ content_at pages found
   same_held None inside = refl
-  same_held (Some place) inside = ap (asked_of place.valid) (same_bytes pages after end size agree (record_at 0 place) inside.begun (omega (arith, inside.within.below)))
+  same_held (Some place) inside = ap (record_content place.valid) (same_bytes pages after end size agree (record_at 0 place) inside.begun (omega (arith, inside.within.below)))
 
   pub still_at : (content : Content) (found : Option RecordPlace) → IsAt pages end content found → IsAt after end content found
   still_at content found is = record { holds = is.holds ∙ sym (same_held found is.inside); inside = is.inside }
@@ -31,8 +31,8 @@ module _ (pages after : List (List ℕ)) (end : ℕ) (size : length after ≡ le
 
 -- A record at the end of the log.
 module _ (pages after : List (List ℕ)) (end block : ℕ) (held : List ℕ) (valid : Bool) (begun : 2 ≤ end) (kind : is_length valid (length held) ≡ true) (whole : IsWhole pages after end block held valid) where
-  pub new_at : IsAt after (end + (2 + byte_pages (length held))) (asked_of valid held) (Some (record { page = end; length = length held; valid = valid }))
-  new_at = record { holds = ap (asked_of valid) (sym whole.holds); inside = record { begun = begun; within = record { below = omega arith; kind = kind } } }
+  pub new_at : IsAt after (end + (2 + byte_pages (length held))) (record_content valid held) (Some (record { page = end; length = length held; valid = valid }))
+  new_at = record { holds = ap (record_content valid) (sym whole.holds); inside = record { begun = begun; within = record { below = omega arith; kind = kind } } }
 
   pub old_at : (content : Content) (found : Option RecordPlace) → IsAt pages end content found → IsAt after (end + (2 + byte_pages (length held))) content found
   old_at content found is =
@@ -42,13 +42,13 @@ module _ (pages after : List (List ℕ)) (end block : ℕ) (held : List ℕ) (va
   module _ (numbers : List ℕ) (places now : List (Option RecordPlace)) (value : ℕ → Content) (tells : TellsPlaces numbers places pages end value) (place : RecordPlace) (here : place ≡ record { page = end; length = length held; valid = valid })
       (noted : (k : ℕ) → k < length numbers → get_or now k None ≡ (if true && (block == get_or numbers k 0) then Some place else get_or places k None)) where
     by_test : (content : Content) (found : Option RecordPlace) (test : Bool) → IsAt after (end + (2 + byte_pages (length held))) content found
-        → IsAt after (end + (2 + byte_pages (length held))) (if test then asked_of valid held else content) (if test then Some place else found)
-    by_test content found true old = subst (λ (p : RecordPlace). IsAt after (end + (2 + byte_pages (length held))) (asked_of valid held) (Some p)) (sym here) new_at
+        → IsAt after (end + (2 + byte_pages (length held))) (if test then record_content valid held else content) (if test then Some place else found)
+    by_test content found true old = subst (λ (p : RecordPlace). IsAt after (end + (2 + byte_pages (length held))) (record_content valid held) (Some p)) (sym here) new_at
     by_test content found false old = old
 
-    pub tells_more : TellsPlaces numbers now after (end + (2 + byte_pages (length held))) (given block (asked_of valid held) value)
+    pub tells_more : TellsPlaces numbers now after (end + (2 + byte_pages (length held))) (given block (record_content valid held) value)
     tells_more k within =
-        subst (λ (found : Option RecordPlace). IsAt after (end + (2 + byte_pages (length held))) (given block (asked_of valid held) value (get_or numbers k 0)) found) (sym (noted k within))
+        subst (λ (found : Option RecordPlace). IsAt after (end + (2 + byte_pages (length held))) (given block (record_content valid held) value (get_or numbers k 0)) found) (sym (noted k within))
         (by_test (value (get_or numbers k 0)) (get_or places k None) (block == get_or numbers k 0) (old_at (value (get_or numbers k 0)) (get_or places k None) (tells k within)))
 
 -- An empty table, of blocks without a record.

@@ -2,7 +2,7 @@
 use Rattle.std.specs.Prelude.{◌≡◌, ◌≤◌, ◌+◌, ◌⊎◌, ◌++◌, ℕ, List, None, false, Result, OnOk, OnErr, length, drop, replicate, slice_index, slice_set}
 use Rattle.flt_flash.specs.Image.{sector_at, programmed, erased, blank_page}
 use Rattle.flt_flash.specs.Tearing.{IsTornPage, IsTornSector}
-use Rattle.flt_flash.specs.State.{FlashState, Operates, MakesOperations, HasRisenBy, counted}
+use Rattle.flt_flash.specs.State.{FlashState, Operates, MakesOperations, HasRisenBy, counted_up}
 use Rattle.flt_flash.specs.declared.flash.FlashFailed.{FlashFailed}
 use Rattle.flt_code.specs.Seal.{unsealed}
 use Rattle.flt_code.specs.Spoiled.{is_spoiled}
@@ -23,8 +23,8 @@ pub record Appends {T : Type 0} (before after : FlashState) (sector page : ℕ) 
   pub operation : Operates before after result
 
 -- A page of plain bytes, padded with ones.
-abbrev pub filled : List ℕ → List ℕ
-filled bytes = bytes ++ drop (length bytes) blank_page
+abbrev pub padded_page : List ℕ → List ℕ
+padded_page bytes = bytes ++ drop (length bytes) blank_page
 
 -- The program of plain bytes on a blank page is torn, and nothing else changed.
 pub record TornPiece (before : List (List (List ℕ))) (sector page : ℕ) (asked : List ℕ) (after : List (List (List ℕ))) : Type 0 where
@@ -49,7 +49,7 @@ pub record TornErase (before : List (List (List ℕ))) (sector : ℕ) (after : L
 pub record BeginsSector {T : Type 0} (before after : FlashState) (sector : ℕ) (asked : List ℕ) (result : Result T FlashFailed) : Type 0 where
   pub done : OnOk result (after.image ≡ programmed (erased before.image sector) sector 0 asked)
   pub torn : OnErr result (TornErase before.image sector after.image ⊎ TornCode (erased before.image sector) sector 0 asked after.image)
-  pub wear : after.wear ≡ slice_set before.wear sector (counted (slice_index before.wear sector))
+  pub wear : after.wear ≡ slice_set before.wear sector (counted_up (slice_index before.wear sector))
   pub runs : MakesOperations before after
   pub operations : after.operations ≤ before.operations + 2
   pub cause : OnErr result (HasRisenBy 1 before.faults after.faults)

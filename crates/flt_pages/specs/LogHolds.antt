@@ -17,8 +17,8 @@ pub record StandsAt (used : ℕ) (numbers : List ℕ) (image : List (List (List 
   pub holds : LogHolds used numbers (sector_at image sector) end value
 
 -- What a record of these bytes holds.
-abbrev pub asked_of : Bool → List ℕ → Content
-asked_of valid held = if valid then bytes held else invalid
+abbrev pub record_content : Bool → List ℕ → Content
+record_content valid held = if valid then bytes held else invalid
 
 -- One block is given another value.
 abbrev pub given : ℕ → Content → (ℕ → Content) → ℕ → Content

@@ -5,7 +5,7 @@ use Rattle.flt_flash.specs.Blocks.{record_pages}
 use Rattle.flt_code.specs.Word.{is_length}
 use Rattle.flt_sector_model.specs.Log.{Entry}
 use Rattle.flt_sector_model.specs.Blocks.{bytes_behind}
-use Rattle.flt_pages.specs.LogHolds.{asked_of}
+use Rattle.flt_pages.specs.LogHolds.{record_content}
 use Rattle.flt_pages.specs.declared.place.RecordPlace.{RecordPlace}
 
 -- The complete record of a block at a place.
@@ -23,8 +23,8 @@ pub record IsPlaceWithin (bound : ℕ) (place : RecordPlace) : Type 0 where
   pub kind : is_length place.valid place.length ≡ true
 
 -- The bytes of the record at a place.
-abbrev pub bytes_at : List (List ℕ) → RecordPlace → List ℕ
-bytes_at pages place = bytes_behind pages (record_at 0 place)
+abbrev pub record_bytes_at : List (List ℕ) → RecordPlace → List ℕ
+record_bytes_at pages place = bytes_behind pages (record_at 0 place)
 
 -- The pages of the record that was found.
 abbrev pub pages_found : Option RecordPlace → ℕ
@@ -39,7 +39,7 @@ pub record IsInLog (end : ℕ) (place : RecordPlace) : Type 0 where
 -- What the record at a place holds, or nothing yet.
 abbrev pub content_at : List (List ℕ) → Option RecordPlace → Content
 content_at pages None = missing
-content_at pages (Some place) = asked_of place.valid (bytes_at pages place)
+content_at pages (Some place) = record_content place.valid (record_bytes_at pages place)
 
 -- A block of this content has its current record at this place of the log that ends at a page, or has none.
 pub record IsAt (pages : List (List ℕ)) (end : ℕ) (content : Content) (found : Option RecordPlace) : Type 0 where

@@ -3,7 +3,7 @@ use Rattle.std.specs.Prelude.{◌≡◌, ◌≢◌, ◌+◌, ◌-◌, ◌*◌, �
 use Rattle.flt_flash.specs.Image.{sector_at}
 use Rattle.flt_flash.specs.Content.{Content, missing}
 use Rattle.flt_flash.specs.Blocks.{pages_of}
-use Rattle.flt_flash.specs.State.{FlashState, HasRisenBy, counted}
+use Rattle.flt_flash.specs.State.{FlashState, HasRisenBy, counted_up}
 use Rattle.flt_flash.specs.declared.flash.FlashFailed.{FlashFailed}
 use Rattle.flt_pages.specs.LogHolds.{LogHolds, StandsAt, given}
 use Rattle.flt_pages.specs.Live.{held_in, current_pages}
@@ -13,8 +13,8 @@ use Rattle.flt_pages.specs.Record.{KeptApart}
 use Rattle.flt_pages.specs.Recorded.{OnSector}
 
 -- The blocks of numbers below one hold what they hold, and the others nothing yet.
-abbrev pub below : ℕ → (ℕ → Content) → ℕ → Content
-below from value block = if nat_lt block from then value block else missing
+abbrev pub copied_below : ℕ → (ℕ → Content) → ℕ → Content
+copied_below from value block = if nat_lt block from then value block else missing
 
 -- Pages from 2 on are written, and no others.
 abbrev pub KeepsGates : List (List ℕ) → List (List ℕ) → Type 0
@@ -60,7 +60,7 @@ pub record Replaces (numbers : List ℕ) (pages : List (List ℕ)) (before after
 -- This many operations at most, with one erase, of this sector.
 pub record Erases (limit sector : ℕ) (before after : FlashState) : Type 0 where
   pub operations : after.operations ≤ before.operations + limit
-  pub wear : after.wear ≡ slice_set before.wear sector (counted (slice_index before.wear sector))
+  pub wear : after.wear ≡ slice_set before.wear sector (counted_up (slice_index before.wear sector))
 
 -- The current records were moved from this sector to the other one: the log there ends behind them at most, and they cost two operations for
 -- each of their pages and three more, with one erase.

@@ -4,7 +4,7 @@ ghost use Rattle.flt_flash.specs.Image.{page_at, blank_page};
 ghost use Rattle.flt_code.specs.declared.words.Word.TheVariants.{Start, Active, Head, Gate};
 ghost use Rattle.flt_code.specs.Seal.{sealed};
 ghost use Rattle.flt_code.specs.Word.{word_bytes, is_length};
-ghost use Rattle.flt_pages.specs.Append.{Appends, AppendsPiece, BeginsSector, filled};
+ghost use Rattle.flt_pages.specs.Append.{Appends, AppendsPiece, BeginsSector, padded_page};
 
 use flt_code::{Word, put_word, seal};
 use flt_flash::{BLANK_PAGE, Flash, FlashFailed};
@@ -55,7 +55,7 @@ pub fn append_gate<F: Flash>(
 /// The bytes, padded with ones.
 pub fn fill_up(bytes: &[u8]) -> [u8; 32]
     requires { length bytes.now ≤ 32 }
-    ensures { result ≡ filled bytes.now }
+    ensures { result ≡ padded_page bytes.now }
 {
     let mut page = BLANK_PAGE;
     page[..bytes.len()].copy_from_slice(bytes);
@@ -73,7 +73,7 @@ pub fn append_piece<F: Flash>(
     requires page { page < (F.state flash.old).pages }
     requires blank { page_at (F.state flash.old).image sector page ≡ blank_page }
     requires most { length bytes.now ≤ 32 }
-    ensures appends { AppendsPiece (F.state flash.old) (F.state flash.new) sector page (filled bytes.now) result }
+    ensures appends { AppendsPiece (F.state flash.old) (F.state flash.new) sector page (padded_page bytes.now) result }
 {
     flash.program(sector, page, &fill_up(bytes))
 }

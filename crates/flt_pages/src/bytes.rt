@@ -4,7 +4,7 @@ ghost use Rattle.flt_flash.specs.Image.{sector_at};
 ghost use Rattle.flt_flash.specs.State.{OnlyReads, HasRisenBy};
 ghost use Rattle.flt_flash.specs.Blocks.{byte_pages, record_pages};
 ghost use Rattle.flt_pages.specs.Blank.{AreBlank};
-ghost use Rattle.flt_pages.specs.RecordPlace.{IsPlaceWithin, bytes_at};
+ghost use Rattle.flt_pages.specs.RecordPlace.{IsPlaceWithin, record_bytes_at};
 ghost use Rattle.flt_pages.specs.Recorded.{Fills, Records};
 
 use crate::append::{append_gate, append_head, append_piece};
@@ -21,7 +21,7 @@ pub fn read_record<F: Flash>(
 ) -> Result<(), FlashFailed>
     requires sector { sector < 2 }
     requires within { IsPlaceWithin (F.state flash.old).pages place }
-    ensures read { OnOk result (out.new ≡ bytes_at (sector_at (F.state flash.old).image sector) place ++ drop place.length out.old) }
+    ensures read { OnOk result (out.new ≡ record_bytes_at (sector_at (F.state flash.old).image sector) place ++ drop place.length out.old) }
     ensures nothing { OnErr result (out.new ≡ out.old) }
     ensures operations { OnOk result ((F.state flash.new).operations ≤ (F.state flash.old).operations + byte_pages place.length) }
     ensures reads { OnlyReads (F.state flash.old) (F.state flash.new) }
@@ -61,7 +61,7 @@ fn copy_bytes<F: Flash>(
     requires within { IsPlaceWithin (F.state flash.old).pages place }
     requires room { first + byte_pages place.length ≤ (F.state flash.old).pages }
     requires blank { AreBlank (sector_at (F.state flash.old).image other) first (first + byte_pages place.length) }
-    ensures fills { Fills (F.state flash.old) (F.state flash.new) other first (bytes_at (sector_at (F.state flash.old).image sector) place) result }
+    ensures fills { Fills (F.state flash.old) (F.state flash.new) other first (record_bytes_at (sector_at (F.state flash.old).image sector) place) result }
     ensures operations { OnOk result ((F.state flash.new).operations ≤ (F.state flash.old).operations + 2 * byte_pages place.length) }
 {
     for index in 0..byte_pages(place.length) {
@@ -90,7 +90,7 @@ pub fn copy_record<F: Flash>(
     requires room { page + record_pages place.length ≤ (F.state flash.old).pages }
     requires blank { AreBlank (sector_at (F.state flash.old).image other) page (page + record_pages place.length) }
     ensures records { Records (F.state flash.old) (F.state flash.new) other page block
-        (bytes_at (sector_at (F.state flash.old).image sector) place) place.valid result }
+        (record_bytes_at (sector_at (F.state flash.old).image sector) place) place.valid result }
     ensures operations { OnOk result ((F.state flash.new).operations ≤ (F.state flash.old).operations + (2 + 2 * byte_pages place.length)) }
 {
     append_head(flash, other, page, block, place.length, place.valid)?;

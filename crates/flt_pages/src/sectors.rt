@@ -1,7 +1,7 @@
 //! The two sectors of a flash: the current one, the first one, and the switch from one to the other.
 ghost use Rattle.std.specs.Prelude.{◌≡◌, ◌+◌, ◌≤◌, Ok, None, IfOk, OnOk, OnErr, IsErrOf, length, slice_index, slice_set};
 ghost use Rattle.flt_flash.specs.Image.{sector_at};
-ghost use Rattle.flt_flash.specs.State.{OnlyReads, MakesOperations, HasRisenBy, counted};
+ghost use Rattle.flt_flash.specs.State.{OnlyReads, MakesOperations, HasRisenBy, counted_up};
 ghost use Rattle.flt_sector_model.specs.Blocks.{current};
 ghost use Rattle.flt_pages.specs.Told.{TellsOrFails, told_current};
 ghost use Rattle.flt_pages.specs.Live.{held_in};
@@ -75,7 +75,7 @@ pub fn set_up_flash<F: Flash>(flash: &mut F, used: u16) -> Result<(), FlashFaile
     requires most { used ≤ (F.state flash.old).pages }
     requires none { current used (F.state flash.old).image ≡ Ok None }
     ensures fresh { OnOk result (IsFresh used (F.state flash.new).image) }
-    ensures wear { OnOk result ((F.state flash.new).wear ≡ slice_set (F.state flash.old).wear 0 (counted (slice_index (F.state flash.old).wear 0))) }
+    ensures wear { OnOk result ((F.state flash.new).wear ≡ slice_set (F.state flash.old).wear 0 (counted_up (slice_index (F.state flash.old).wear 0))) }
     ensures holds_nothing { HoldsNothing used (F.state flash.new).image }
     ensures runs { MakesOperations (F.state flash.old) (F.state flash.new) }
     ensures operations { (F.state flash.new).operations ≤ (F.state flash.old).operations + 3 }

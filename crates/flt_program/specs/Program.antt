@@ -9,7 +9,7 @@ use Rattle.flt_notify.specs.declared.table.SubTable.{SubTable}
 use Rattle.flt_notify.specs.Table.{kinds_in, values_in}
 use Rattle.flt_run.specs.declared.command.Command.{Command}
 use Rattle.flt_run.specs.declared.running.Outcome.{Outcome}
-use Rattle.flt_run.specs.Ending.{Inside, Outside, Runs}
+use Rattle.flt_run.specs.Ending.{RunInside, RunOutside, Runs}
 use Rattle.flt_filter.specs.Verdict as filter
 use Rattle.flt_watch.specs.declared.watching.WatchOutcome.{WatchOutcome}
 use Rattle.flt_watch.specs.Watch.{Watches}
@@ -40,15 +40,15 @@ EndsOn _ _ _ _ _ = ⊥
 
 -- With all that is promised of a run over these streams and over this flash or this EEPROM, whose states after it the first two tell, and with all
 -- that is promised of a watch with these subscribers.
-abbrev pub EndsOver : {B E : Type 0} {n : ℕ} {F : _} {g : _} → (B → FlashState) → (E → FlashState) → List DidUse → ((Config → Medium) → FlashState → FlashState → Inside)
-    → Outside → filter.Inside → filter.Outside → FlashState → FlashState → SubTable n F g → Invocation → Ended B E F g → Type 0
+abbrev pub EndsOver : {B E : Type 0} {n : ℕ} {F : _} {g : _} → (B → FlashState) → (E → FlashState) → List DidUse → ((Config → Medium) → FlashState → FlashState → RunInside)
+    → RunOutside → filter.Inside → filter.Outside → FlashState → FlashState → SubTable n F g → Invocation → Ended B E F g → Type 0
 EndsOver flash_after eeprom_after dids inside outside reading writing flash eeprom subs invocation =
     EndsOn invocation (λ command outcome. Runs dids (inside sectors flash (flash_after outcome.device)) outside command outcome.status outcome.lives.items)
     (λ command outcome. Runs dids (inside units eeprom (eeprom_after outcome.device)) outside command outcome.status outcome.lives.items)
     (λ outcome. Watches dids reading writing (kinds_in subs) (values_in subs) outcome)
 
 -- The status of what ended.
-abbrev pub status_of : {B E : Type 0} {F : _} {g : _} → Ended B E F g → ℕ
-status_of (ended.Flash outcome) = outcome.status
-status_of (ended.Eeprom outcome) = outcome.status
-status_of (ended.Watch outcome) = outcome.status
+abbrev pub program_status : {B E : Type 0} {F : _} {g : _} → Ended B E F g → ℕ
+program_status (ended.Flash outcome) = outcome.status
+program_status (ended.Eeprom outcome) = outcome.status
+program_status (ended.Watch outcome) = outcome.status

@@ -5,7 +5,7 @@ use Rattle.flt_script.specs.Gives.{◌⇒◌}
 use Rattle.flt_script.specs.Numeral.{number, from_to}
 use Rattle.flt_run.specs.declared.command.Command.{Command}
 use Rattle.flt_run.specs.declared.command.Command.TheVariants.{Run, Check, Load}
-use Rattle.flt_run.specs.Command.{IsInRange}
+use Rattle.flt_run.specs.Command.{IsLoadInRange}
 use Rattle.flt_program.specs.declared.invocation.Invocation.{Invocation}
 use Rattle.flt_program.specs.declared.invocation.Invocation.TheVariants.{Flash, Eeprom, Watch}
 
@@ -45,6 +45,6 @@ invocation_of (word ∷ count ∷ kind ∷ next ∷ more) = Flash None
 
 -- The reports of a load are so many.
 abbrev pub IsOfRange : Invocation → Type 0
-IsOfRange (Flash command) = IsInRange command
-IsOfRange (Eeprom command) = IsInRange (Some command)
+IsOfRange (Flash command) = IsLoadInRange command
+IsOfRange (Eeprom command) = IsLoadInRange (Some command)
 IsOfRange Watch = Unit {0}

@@ -35,11 +35,11 @@ pub enum Ended<B, E> {
 }
 
 impl<B, E> Ended<B, E> {
-    ghost use Rattle.flt_program.specs.Program.{status_of};
+    ghost use Rattle.flt_program.specs.Program.{program_status};
 
     /// The exit status.
     pub fn status(&self) -> u8
-        ensures { result ≡ status_of self.now }
+        ensures { result ≡ program_status self.now }
     {
         match self {
             Ended::Flash(outcome) => outcome.status,

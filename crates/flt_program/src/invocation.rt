@@ -1,7 +1,7 @@
 //! The words behind the program's name, and what they ask for.
 ghost use Rattle.std.specs.Prelude.{◌≡◌, ◌≤◌, map, IfSome};
 ghost use Rattle.std.specs.String.{string_bytes};
-ghost use Rattle.flt_run.specs.Command.{IsInRange};
+ghost use Rattle.flt_run.specs.Command.{IsLoadInRange};
 ghost use Rattle.flt_program.specs.Words.{IsOfRange, count_of, invocation_of, kind_of, load_of};
 
 use flt_run::Command;
@@ -55,7 +55,7 @@ fn read_kind(word: &[u8]) -> Option<bool>
 #[tactic(auto, unfolding(crate::specs::Words::load_of))]
 fn read_load(word: &[u8], count: &[u8], kind: &[u8]) -> Option<Command>
     ensures is { result ≡ load_of word.now count.now kind.now }
-    ensures range { IsInRange result }
+    ensures range { IsLoadInRange result }
 {
     match word {
         b"load" => {

@@ -3,8 +3,9 @@ use Rattle.std.proofs.Common.{rules, ◌≡◌, ℕ, ◌+◌, if◌then◌else�
 use Rattle.flt_queue.specs.declared.job.Job.{Job}
 use Rattle.flt_queue.specs.declared.job.QueueOp.TheVariants as ops
 use Rattle.flt_queue.specs.declared.job.QueueReplyOf.TheVariants as replies
-use Rattle.flt_queue.specs.Queue.{History, Posted, posted, waiting, pending, taken, is_of, earliest, some_urgent, without_earliest, next_of, handed_out}
-use Rattle.flt_queue.specs.Laws.{one_if, many_of, is_due, OneOfABlock, HandedOutIsDue}
+use Rattle.flt_queue.specs.Queue.{History, Posted, posted, waiting, pending, taken, is_job_of, earliest, some_urgent, without_earliest, next_of, handed_out}
+use Rattle.flt_turn.specs.Sums.{one_if}
+use Rattle.flt_queue.specs.Laws.{many_of, is_due, OneOfABlock, HandedOutIsDue}
 
 pub record Sound (block : ℕ) (past : History) : Type 0 where
   pub one : many_of block (waiting past) ≡ one_if (is_due block past)
@@ -15,14 +16,14 @@ many_append block [] more = omega arith
 many_append block (post ∷ posts) more = omega (arith, many_append block posts more)
 
 without_at : (block : ℕ) (kind : Bool) (post : Posted) (posts : List Posted) (e : Bool) → post.urgent ≡ e
-    → many_of block (without_earliest kind posts) + one_if (is_of block (earliest kind posts)) ≡ many_of block posts
-    → many_of block (without_earliest kind (post ∷ posts)) + one_if (is_of block (earliest kind (post ∷ posts))) ≡ many_of block (post ∷ posts)
+    → many_of block (without_earliest kind posts) + one_if (is_job_of block (earliest kind posts)) ≡ many_of block posts
+    → many_of block (without_earliest kind (post ∷ posts)) + one_if (is_job_of block (earliest kind (post ∷ posts))) ≡ many_of block (post ∷ posts)
 without_at block true post posts true is rest = rw is (omega arith)
 without_at block true post posts false is rest = rw is (omega (arith, rest))
 without_at block false post posts true is rest = rw is (omega (arith, rest))
 without_at block false post posts false is rest = rw is (omega arith)
 
-many_without : (block : ℕ) (kind : Bool) (posts : List Posted) → many_of block (without_earliest kind posts) + one_if (is_of block (earliest kind posts)) ≡ many_of block posts
+many_without : (block : ℕ) (kind : Bool) (posts : List Posted) → many_of block (without_earliest kind posts) + one_if (is_job_of block (earliest kind posts)) ≡ many_of block posts
 many_without block true [] = refl
 many_without block false [] = refl
 many_without block kind (post ∷ posts) = without_at block kind post posts post.urgent refl (many_without block kind posts)
@@ -46,7 +47,7 @@ accepts block urgent job past true false is is_taken free room before =
 accepts block urgent job past false was_taken is is_taken free room before =
     record { one = rw (free, room, is, many_append block (waiting past) (posted urgent job ∷ []), is) (omega (arith, before.one)); meets = rw is before.meets }
 
-takes_at : (block : ℕ) (past : History) (mine was_taken was_pending : Bool) → is_of block (next_of (waiting past)) ≡ mine → taken block past ≡ was_taken → pending block past ≡ was_pending
+takes_at : (block : ℕ) (past : History) (mine was_taken was_pending : Bool) → is_job_of block (next_of (waiting past)) ≡ mine → taken block past ≡ was_taken → pending block past ≡ was_pending
     → Sound block past → Sound block (ops.Take ∷ past)
 unfolding waiting pending taken
 takes_at block past false was_taken was_pending is is_taken is_pending before =
@@ -85,7 +86,7 @@ pub sound : (block : ℕ) (past : History) → Sound block past
 unfolding waiting pending taken
 sound block [] = record { one = refl; meets = λ never. absurd (search rules) }
 sound block (ops.Post urgent job ∷ past) = posts block urgent job past (pending job.block past) (nat_lt (length (waiting past)) 32) refl refl (sound block past)
-sound block (ops.Take ∷ past) = takes_at block past (is_of block (next_of (waiting past))) (taken block past) (pending block past) refl refl refl (sound block past)
+sound block (ops.Take ∷ past) = takes_at block past (is_job_of block (next_of (waiting past))) (taken block past) (pending block past) refl refl refl (sound block past)
 sound block (ops.Done done written ∷ past) = dones_at block done written past (nat_eq done block) (taken block past) refl refl (sound block past)
 sound block (ops.Ask asked ∷ past) = let before = sound block past in record { one = before.one; meets = before.meets }
 
@@ -98,7 +99,7 @@ is_due_at block many past false is some now =
     let none : many_of block (waiting past) ≡ 0 = rw is at now.one in
     absurd (omega (arith, some, none))
 
-handed_is : (found : Option Job) (job : Job) → handed_out found ≡ replies.Job job → is_of job.block found ≡ true
+handed_is : (found : Option Job) (job : Job) → handed_out found ≡ replies.Job job → is_job_of job.block found ≡ true
 handed_is None job told = absurd (search rules)
 handed_is (Some other) job told =
     let same : other ≡ job = search rules in

@@ -2,9 +2,9 @@
 use Rattle.std.proofs.Common.{◌≡◌, refl}
 use Rattle.flt_queue.specs.declared.job.Job.{Job}
 use Rattle.flt_queue.specs.declared.job.QueueReplyOf.TheVariants as replies
-use Rattle.flt_queue.specs.Reply.{QueueKind, reply_with}
+use Rattle.flt_queue.specs.Reply.{QueueKind, job_reply_with}
 
-pub none_handed : (kind : QueueKind) (beside : Job) → ((none : Unit {0}) → kind ≡ replies.Job none → ⊥) → (job : Job) → reply_with kind beside ≡ replies.Job job → ⊥
+pub none_handed : (kind : QueueKind) (beside : Job) → ((none : Unit {0}) → kind ≡ replies.Job none → ⊥) → (job : Job) → job_reply_with kind beside ≡ replies.Job job → ⊥
 none_handed replies.Accepted beside other job is = cc is
 none_handed replies.BlockPending beside other job is = cc is
 none_handed replies.QueueFull beside other job is = cc is

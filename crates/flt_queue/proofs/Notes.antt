@@ -4,7 +4,7 @@ use Rattle.flt_queue.specs.declared.job.Job.{Job}
 use Rattle.flt_queue.specs.declared.job.QueueOp.{QueueOp}
 use Rattle.flt_queue.specs.declared.job.QueueOp.TheVariants as ops
 use Rattle.flt_queue.specs.declared.job.QueueReplyOf.TheVariants as replies
-use Rattle.flt_queue.specs.Reply.{QueueKind, MakesAlone, reply_with}
+use Rattle.flt_queue.specs.Reply.{QueueKind, MakesAlone, job_reply_with}
 use Rattle.flt_queue.specs.Queue.{taken}
 use Rattle.flt_queue.specs.Call.{Seat, IsCall, CallsAlone, CallsInto, whole}
 use Rattle.flt_turn.specs.declared.answer.Answer.{Answer}
@@ -12,7 +12,7 @@ use Rattle.flt_turn.specs.declared.answer.HistoryFull.{HistoryFull}
 use Rattle.flt_turn.specs.Call.{past}
 
 -- The kind of a note is that of its reply.
-noted_alone : (kind : QueueKind) (beside : Job) (counts : Bool) → reply_with kind beside ≡ (if counts then replies.Noted else replies.NotTaken)
+noted_alone : (kind : QueueKind) (beside : Job) (counts : Bool) → job_reply_with kind beside ≡ (if counts then replies.Noted else replies.NotTaken)
     → MakesAlone kind (if counts then replies.Noted else replies.NotTaken)
 noted_alone replies.Accepted beside counts is = λ job. is
 noted_alone replies.BlockPending beside counts is = λ job. is

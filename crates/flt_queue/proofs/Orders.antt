@@ -5,7 +5,7 @@ use Rattle.flt_queue.specs.declared.job.Job.{Job}
 use Rattle.flt_queue.specs.declared.job.QueueOp.TheVariants as ops
 use Rattle.flt_queue.specs.Queue.{History, Posted, posted, waiting, pending, some_urgent, without_earliest, next_of, handed_out}
 use Rattle.flt_queue.specs.Stands.{jobs}
-use Rattle.flt_queue.specs.Laws.{with_job, with_handed, accepted, handed, FirstInFirstOut}
+use Rattle.flt_queue.specs.Laws.{with_job, with_handed, accepted_jobs, handed, FirstInFirstOut}
 use Rattle.flt_queue.proofs.Steps.{jobs_posted, HandsOut, hands_out, some_waits, none_waits, as_many}
 
 -- A job moves from those that wait to those that were handed out.
@@ -36,12 +36,12 @@ joins false true job posts before all are = rw (are, jobs_posted false true job 
 joins false false job posts before all are = rw (are, jobs_posted false false job posts) (append_assoc before (jobs false posts) (job ∷ []))
 
 posts_at : (kind urgent : Bool) (job : Job) (past : History) (busy room : Bool) → pending job.block past ≡ busy → nat_lt (length (waiting past)) 32 ≡ room
-    → accepted kind past ≡ handed kind past ++ jobs kind (waiting past)
-    → accepted kind (ops.Post urgent job ∷ past) ≡ handed kind (ops.Post urgent job ∷ past) ++ jobs kind (waiting (ops.Post urgent job ∷ past))
+    → accepted_jobs kind past ≡ handed kind past ++ jobs kind (waiting past)
+    → accepted_jobs kind (ops.Post urgent job ∷ past) ≡ handed kind (ops.Post urgent job ∷ past) ++ jobs kind (waiting (ops.Post urgent job ∷ past))
 unfolding waiting
 posts_at kind urgent job past true room is_busy is_room before = rw is_busy before
 posts_at kind urgent job past false false is_busy is_room before = rw (is_busy, is_room) before
-posts_at kind urgent job past false true is_busy is_room before = rw (is_busy, is_room) (joins kind urgent job (waiting past) (handed kind past) (accepted kind past) before)
+posts_at kind urgent job past false true is_busy is_room before = rw (is_busy, is_room) (joins kind urgent job (waiting past) (handed kind past) (accepted_jobs kind past) before)
 
 pub first_in_first_out : FirstInFirstOut
 unfolding waiting

@@ -6,8 +6,8 @@ use Rattle.std.proofs.lemmas.List.Elements.{All-nil, All-cons, All-head, All-tai
 use Rattle.flt_queue.specs.declared.job.Job.{Job}
 use Rattle.flt_queue.specs.declared.job.QueueOp.{QueueOp}
 use Rattle.flt_queue.specs.declared.job.QueueOp.TheVariants as ops
-use Rattle.flt_queue.specs.Reply.{QueueKind, QueueReply, reply_with}
-use Rattle.flt_queue.specs.Queue.{History, Posted, posted, IsJob, IsAdmitted, IsFor, waiting, pending, some_urgent, earliest, without_earliest, handed_out}
+use Rattle.flt_queue.specs.Reply.{QueueKind, QueueReply, job_reply_with}
+use Rattle.flt_queue.specs.Queue.{History, Posted, posted, IsJob, IsQueueCallFor, IsFor, waiting, pending, some_urgent, earliest, without_earliest, handed_out}
 use Rattle.flt_queue.specs.Call.{Seat, IsCall, whole}
 use Rattle.flt_turn.specs.Call.{past}
 use Rattle.flt_turn.specs.declared.answer.Answer.{Answer}
@@ -40,16 +40,16 @@ earliest_for blocks true [] all = tt
 earliest_for blocks false [] all = tt
 earliest_for blocks kind (post ∷ posts) all = earliest_at blocks kind post posts post.urgent refl all (earliest_for blocks kind posts (All-tail (IsPost blocks) post posts all))
 
-waiting_for : (blocks : ℕ) (calls : History) → All (IsAdmitted blocks) calls → All (IsPost blocks) (waiting calls)
+waiting_for : (blocks : ℕ) (calls : History) → All (IsQueueCallFor blocks) calls → All (IsPost blocks) (waiting calls)
 unfolding waiting
 waiting_for blocks [] all = All-nil (IsPost blocks)
 waiting_for blocks (ops.Post urgent job ∷ calls) all =
-    let before = waiting_for blocks calls (All-tail (IsAdmitted blocks) (ops.Post urgent job) calls all) in
+    let before = waiting_for blocks calls (All-tail (IsQueueCallFor blocks) (ops.Post urgent job) calls all) in
     with_post (All (IsPost blocks)) urgent job calls (pending job.block calls) (nat_lt (length (waiting calls)) 32) refl refl before
-    (λ _. All-push (IsPost blocks) (waiting calls) (posted urgent job) before (All-head (IsAdmitted blocks) (ops.Post urgent job) calls all))
-waiting_for blocks (ops.Take ∷ calls) all = without_all (IsPost blocks) (some_urgent (waiting calls)) (waiting calls) (waiting_for blocks calls (All-tail (IsAdmitted blocks) ops.Take calls all))
-waiting_for blocks (ops.Done block written ∷ calls) all = waiting_for blocks calls (All-tail (IsAdmitted blocks) (ops.Done block written) calls all)
-waiting_for blocks (ops.Ask block ∷ calls) all = waiting_for blocks calls (All-tail (IsAdmitted blocks) (ops.Ask block) calls all)
+    (λ _. All-push (IsPost blocks) (waiting calls) (posted urgent job) before (All-head (IsQueueCallFor blocks) (ops.Post urgent job) calls all))
+waiting_for blocks (ops.Take ∷ calls) all = without_all (IsPost blocks) (some_urgent (waiting calls)) (waiting calls) (waiting_for blocks calls (All-tail (IsQueueCallFor blocks) ops.Take calls all))
+waiting_for blocks (ops.Done block written ∷ calls) all = waiting_for blocks calls (All-tail (IsQueueCallFor blocks) (ops.Done block written) calls all)
+waiting_for blocks (ops.Ask block ∷ calls) all = waiting_for blocks calls (All-tail (IsQueueCallFor blocks) (ops.Ask block) calls all)
 
 reverse_all : {X : Type 0} (P : X → Type 0) (xs : List X) → All P xs → All P (reverse xs)
 reverse_all P xs all = λ k d lt.
@@ -59,14 +59,14 @@ reverse_all P xs all = λ k d lt.
 -- What a call of a lock that takes a job is answered.
 taken_for : (before after : Seat) (told : Answer QueueReply) → IsCall before after ops.Take told → IsFor before.start told.reply
 taken_for before after told call =
-    let ops_all : All (IsAdmitted before.start) (ops_before told.place after.seen) = All-map (IsAdmitted before.start) (λ entry. entry.op) _ (All-take (λ entry. IsAdmitted before.start entry.op) told.place after.seen call.admitted) in
-    let calls_all : All (IsAdmitted before.start) (past told.place after.seen) = reverse_all (IsAdmitted before.start) (ops_before told.place after.seen) ops_all in
+    let ops_all : All (IsQueueCallFor before.start) (ops_before told.place after.seen) = All-map (IsQueueCallFor before.start) (λ entry. entry.op) _ (All-take (λ entry. IsQueueCallFor before.start entry.op) told.place after.seen call.admitted) in
+    let calls_all : All (IsQueueCallFor before.start) (past told.place after.seen) = reverse_all (IsQueueCallFor before.start) (ops_before told.place after.seen) ops_all in
     rw call.reply (earliest_for before.start (some_urgent (waiting (past told.place after.seen))) (waiting (past told.place after.seen)) (waiting_for before.start (past told.place after.seen) calls_all))
 
 pub take_for : (before after : Seat) (told : Result (Answer QueueReply) (HistoryFull QueueOp)) → IfOk told (IsCall before after ops.Take) → IfOk told (λ told. IsFor before.start told.reply)
 take_for before after (Ok told) call = taken_for before after told call
 take_for before after (Err full) call = tt
 
-pub take_into_for : (before after : Seat) (job : Job) (told : Result (Answer QueueKind) (HistoryFull QueueOp)) → IfOk told (λ told. IsCall before after ops.Take (whole told job)) → IfOk told (λ told. IsFor before.start (reply_with told.reply job))
+pub take_into_for : (before after : Seat) (job : Job) (told : Result (Answer QueueKind) (HistoryFull QueueOp)) → IfOk told (λ told. IsCall before after ops.Take (whole told job)) → IfOk told (λ told. IsFor before.start (job_reply_with told.reply job))
 take_into_for before after job (Ok told) call = taken_for before after (whole told job) call
 take_into_for before after job (Err full) call = tt

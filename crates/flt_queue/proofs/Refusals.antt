@@ -6,7 +6,7 @@ use Rattle.flt_queue.specs.declared.job.Job.{Job}
 use Rattle.flt_queue.specs.declared.job.QueueOp.TheVariants as ops
 use Rattle.flt_queue.specs.Queue.{History, Posted, posted, waiting, pending, taken, some_urgent, without_earliest, next_of, answer_q, handed_out}
 use Rattle.flt_queue.specs.Stands.{jobs}
-use Rattle.flt_queue.specs.Laws.{is_refused, IsSame, RefusedChangesNothing, FewWait}
+use Rattle.flt_queue.specs.Laws.{is_call_refused, IsSame, RefusedChangesNothing, FewWait}
 use Rattle.flt_queue.proofs.Steps.{HandsOut, hands_out, some_waits, none_waits, as_many, with_post, is_accepted, idle_at, refused_at, idle_take_at}
 
 post_same : (urgent : Bool) (job : Job) (past : History) → is_accepted past job.block ≡ false → IsSame past (ops.Post urgent job ∷ past)
@@ -14,14 +14,14 @@ unfolding waiting
 post_same urgent job past refused = record { waiting = rw refused refl; blocks = λ block. sym (refused_at urgent job block past (nat_eq job.block block) refl refused) }
 
 posts : (urgent : Bool) (job : Job) (past : History) (busy room : Bool) → pending job.block past ≡ busy → nat_lt (length (waiting past)) 32 ≡ room
-    → is_refused (answer_q past (ops.Post urgent job)) ≡ true → IsSame past (ops.Post urgent job ∷ past)
+    → is_call_refused (answer_q past (ops.Post urgent job)) ≡ true → IsSame past (ops.Post urgent job ∷ past)
 posts urgent job past true room is_busy is_room told = post_same urgent job past (rw is_busy refl)
 posts urgent job past false false is_busy is_room told = post_same urgent job past (rw (is_busy, is_room) refl)
 posts urgent job past false true is_busy is_room told =
     let never = rw (is_busy, is_room) at told in
     absurd (search rules)
 
-none_at : (posts : List Posted) (us ss : List Job) → jobs true posts ≡ us → jobs false posts ≡ ss → is_refused (handed_out (next_of posts)) ≡ true → posts ≡ []
+none_at : (posts : List Posted) (us ss : List Job) → jobs true posts ≡ us → jobs false posts ≡ ss → is_call_refused (handed_out (next_of posts)) ≡ true → posts ≡ []
 none_at posts (job ∷ us) ss are others told =
     let h : HandsOut true posts job us = hands_out true posts job us are in
     let never = rw (some_waits posts job us are, h.first) at told in
@@ -39,7 +39,7 @@ takes : (past : History) → waiting past ≡ [] → IsSame past (ops.Take ∷ p
 unfolding waiting
 takes past none = record { waiting = rw none refl; blocks = λ block. sym (idle_take_at block past none) }
 
-dones : (done : ℕ) (written : Bool) (past : History) (was_taken : Bool) → taken done past ≡ was_taken → is_refused (answer_q past (ops.Done done written)) ≡ true → IsSame past (ops.Done done written ∷ past)
+dones : (done : ℕ) (written : Bool) (past : History) (was_taken : Bool) → taken done past ≡ was_taken → is_call_refused (answer_q past (ops.Done done written)) ≡ true → IsSame past (ops.Done done written ∷ past)
 unfolding waiting
 dones done written past true is told =
     let never = rw is at told in

@@ -7,11 +7,11 @@ use Rattle.flt_queue.specs.declared.job.LastResult.TheVariants.{Never}
 use Rattle.flt_queue.specs.declared.job.QueueOp.TheVariants as ops
 use Rattle.flt_queue.specs.declared.queue.BlockState.{BlockState}
 use Rattle.flt_queue.specs.declared.queue.JobQueue.{JobQueue}
-use Rattle.flt_queue.specs.Queue.{History, Posted, posted, waiting, pending, taken, result_of, some_urgent, earliest, without_earliest, next_of}
-use Rattle.flt_queue.specs.Stands.{Stands, state_of, jobs}
+use Rattle.flt_queue.specs.Queue.{History, Posted, posted, waiting, pending, taken, last_result_of, some_urgent, earliest, without_earliest, next_of}
+use Rattle.flt_queue.specs.Stands.{QueueStands, block_state, jobs}
 use Rattle.flt_queue.specs.Laws.{with_job}
 
-pub asked : (blocks block : ℕ) (past : History) (queue : JobQueue) → Stands blocks past queue → Stands blocks (ops.Ask block ∷ past) queue
+pub asked : (blocks block : ℕ) (past : History) (queue : JobQueue) → QueueStands blocks past queue → QueueStands blocks (ops.Ask block ∷ past) queue
 unfolding waiting pending taken
 asked blocks block past queue s = record { urgent = s.urgent; standard = s.standard; table = s.table }
 
@@ -23,26 +23,26 @@ unfolding waiting
 nothing_waits true = refl
 nothing_waits false = refl
 
-pub resting_at : (block : ℕ) (d : BlockState) → block < 40 → slice_index_or (replicate 40 resting) block d ≡ state_of block []
+pub resting_at : (block : ℕ) (d : BlockState) → block < 40 → slice_index_or (replicate 40 resting) block d ≡ block_state block []
 unfolding pending taken
 resting_at block d lt = get_or-replicate 40 block resting d lt
 
 done_at : (table : List BlockState) (done block : ℕ) (written : Bool) (past : History) (d : BlockState) (e : Bool) → nat_eq done block ≡ e → done < length table → taken done past ≡ true
-    → slice_index_or table block d ≡ state_of block past
-    → slice_index_or (slice_set table done (record { pending = false; taken = false; last = result_of written })) block d ≡ state_of block (ops.Done done written ∷ past)
+    → slice_index_or table block d ≡ block_state block past
+    → slice_index_or (slice_set table done (record { pending = false; taken = false; last = last_result_of written })) block d ≡ block_state block (ops.Done done written ∷ past)
 unfolding pending taken
-done_at table done block written past d true is lt counts before = grind (arith, get_or-set_same table done (record { pending = false; taken = false; last = result_of written }) d)
-done_at table done block written past d false is lt counts before = grind (arith, get_or-set_other table done block (record { pending = false; taken = false; last = result_of written }) d)
+done_at table done block written past d true is lt counts before = grind (arith, get_or-set_same table done (record { pending = false; taken = false; last = last_result_of written }) d)
+done_at table done block written past d false is lt counts before = grind (arith, get_or-set_other table done block (record { pending = false; taken = false; last = last_result_of written }) d)
 
 pub idle_at : (done block : ℕ) (written : Bool) (past : History) (e : Bool) → nat_eq done block ≡ e → taken done past ≡ false
-    → state_of block past ≡ state_of block (ops.Done done written ∷ past)
+    → block_state block past ≡ block_state block (ops.Done done written ∷ past)
 unfolding pending taken
 idle_at done block written past true is idle = grind (arith)
 idle_at done block written past false is idle = grind (arith)
 
-pub done_counts : (blocks done : ℕ) (written : Bool) (past : History) (old new : JobQueue) → Stands blocks past old → done < length old.table → taken done past ≡ true
-    → new.urgent ≡ old.urgent → new.standard ≡ old.standard → new.table ≡ slice_set old.table done (record { pending = false; taken = false; last = result_of written })
-    → Stands blocks (ops.Done done written ∷ past) new
+pub done_counts : (blocks done : ℕ) (written : Bool) (past : History) (old new : JobQueue) → QueueStands blocks past old → done < length old.table → taken done past ≡ true
+    → new.urgent ≡ old.urgent → new.standard ≡ old.standard → new.table ≡ slice_set old.table done (record { pending = false; taken = false; last = last_result_of written })
+    → QueueStands blocks (ops.Done done written ∷ past) new
 unfolding waiting
 done_counts blocks done written past old new s lt counts urgent standard table = record {
   urgent = rw urgent s.urgent;
@@ -50,7 +50,7 @@ done_counts blocks done written past old new s lt counts urgent standard table =
   table = λ block d less. rw table (done_at old.table done block written past d (nat_eq done block) refl lt counts (s.table block d less));
 }
 
-pub done_idles : (blocks done : ℕ) (written : Bool) (past : History) (queue : JobQueue) → Stands blocks past queue → taken done past ≡ false → Stands blocks (ops.Done done written ∷ past) queue
+pub done_idles : (blocks done : ℕ) (written : Bool) (past : History) (queue : JobQueue) → QueueStands blocks past queue → taken done past ≡ false → QueueStands blocks (ops.Done done written ∷ past) queue
 unfolding waiting
 done_idles blocks done written past queue s idle = record {
   urgent = s.urgent;
@@ -63,13 +63,13 @@ abbrev pub is_accepted : History → ℕ → Bool
 is_accepted past block = if pending block past then false else nat_lt (length (waiting past)) 32
 
 pub refused_at : (urgent : Bool) (job : Job) (block : ℕ) (past : History) (e : Bool) → nat_eq job.block block ≡ e → is_accepted past job.block ≡ false
-    → state_of block past ≡ state_of block (ops.Post urgent job ∷ past)
+    → block_state block past ≡ block_state block (ops.Post urgent job ∷ past)
 unfolding pending taken
 refused_at urgent job block past true is refused = grind (arith)
 refused_at urgent job block past false is refused = grind (arith)
 
-pub post_refused : (blocks : ℕ) (urgent : Bool) (job : Job) (past : History) (queue : JobQueue) → Stands blocks past queue → is_accepted past job.block ≡ false
-    → Stands blocks (ops.Post urgent job ∷ past) queue
+pub post_refused : (blocks : ℕ) (urgent : Bool) (job : Job) (past : History) (queue : JobQueue) → QueueStands blocks past queue → is_accepted past job.block ≡ false
+    → QueueStands blocks (ops.Post urgent job ∷ past) queue
 unfolding waiting
 post_refused blocks urgent job past queue s refused = record {
   urgent = rw refused s.urgent;
@@ -109,8 +109,8 @@ jobs_append false [] more = refl
 jobs_append kind (post ∷ posts) more = jobs_append_at kind post posts more post.urgent refl (jobs_append kind posts more)
 
 accepted_at : (table : List BlockState) (urgent : Bool) (job : Job) (block : ℕ) (past : History) (x d : BlockState) (e : Bool) → nat_eq job.block block ≡ e → job.block < length table → is_accepted past job.block ≡ true
-    → x ≡ state_of job.block past → slice_index_or table block d ≡ state_of block past
-    → slice_index_or (slice_set table job.block (record { pending = true; taken = x.taken; last = x.last })) block d ≡ state_of block (ops.Post urgent job ∷ past)
+    → x ≡ block_state job.block past → slice_index_or table block d ≡ block_state block past
+    → slice_index_or (slice_set table job.block (record { pending = true; taken = x.taken; last = x.last })) block d ≡ block_state block (ops.Post urgent job ∷ past)
 unfolding pending taken
 accepted_at table urgent job block past x d true is lt free here before = grind (arith, get_or-set_same table job.block (record { pending = true; taken = x.taken; last = x.last }) d)
 accepted_at table urgent job block past x d false is lt free here before = grind (arith, get_or-set_other table job.block block (record { pending = true; taken = x.taken; last = x.last }) d)
@@ -121,11 +121,11 @@ jobs_posted true false job posts = rw (jobs_append true posts (posted false job 
 jobs_posted false true job posts = rw (jobs_append false posts (posted true job ∷ [])) (append-nil (jobs false posts))
 jobs_posted false false job posts = jobs_append false posts (posted false job ∷ [])
 
-pub post_accepted : (blocks : ℕ) (urgent : Bool) (job : Job) (past : History) (old new : JobQueue) (x : BlockState) → Stands blocks past old → job.block < length old.table → is_accepted past job.block ≡ true
-    → x ≡ state_of job.block past
+pub post_accepted : (blocks : ℕ) (urgent : Bool) (job : Job) (past : History) (old new : JobQueue) (x : BlockState) → QueueStands blocks past old → job.block < length old.table → is_accepted past job.block ≡ true
+    → x ≡ block_state job.block past
     → new.urgent.items ≡ with_job true urgent job old.urgent.items → new.standard.items ≡ with_job false urgent job old.standard.items
     → new.table ≡ slice_set old.table job.block (record { pending = true; taken = x.taken; last = x.last })
-    → Stands blocks (ops.Post urgent job ∷ past) new
+    → QueueStands blocks (ops.Post urgent job ∷ past) new
 unfolding waiting
 post_accepted blocks urgent job past old new x s lt free here urgents standards table = record {
   urgent = rw (free, jobs_posted true urgent job (waiting past), ← s.urgent) urgents;
@@ -191,18 +191,18 @@ none_waits [] are = refl
 none_waits (post ∷ posts) are = none_at post posts post.urgent refl are (none_waits posts)
 
 taken_at : (table : List BlockState) (job : Job) (block : ℕ) (past : History) (x d : BlockState) (e : Bool) → nat_eq job.block block ≡ e → job.block < length table → next_of (waiting past) ≡ Some job
-    → x ≡ state_of job.block past → slice_index_or table block d ≡ state_of block past
-    → slice_index_or (slice_set table job.block (record { pending = x.pending; taken = true; last = x.last })) block d ≡ state_of block (ops.Take ∷ past)
+    → x ≡ block_state job.block past → slice_index_or table block d ≡ block_state block past
+    → slice_index_or (slice_set table job.block (record { pending = x.pending; taken = true; last = x.last })) block d ≡ block_state block (ops.Take ∷ past)
 unfolding pending taken
 taken_at table job block past x d true is lt next here before = rw next (grind (arith, get_or-set_same table job.block (record { pending = x.pending; taken = true; last = x.last }) d))
 taken_at table job block past x d false is lt next here before = rw next (grind (arith, get_or-set_other table job.block block (record { pending = x.pending; taken = true; last = x.last }) d))
 
 -- The earliest urgent job is taken.
-pub take_urgent : (blocks : ℕ) (job : Job) (rest : List Job) (past : History) (old new : JobQueue) (x : BlockState) → Stands blocks past old → job.block < length old.table
-    → x ≡ state_of job.block past
+pub take_urgent : (blocks : ℕ) (job : Job) (rest : List Job) (past : History) (old new : JobQueue) (x : BlockState) → QueueStands blocks past old → job.block < length old.table
+    → x ≡ block_state job.block past
     → old.urgent.items ≡ job ∷ rest → new.urgent.items ≡ rest → new.standard.items ≡ old.standard.items
     → new.table ≡ slice_set old.table job.block (record { pending = x.pending; taken = true; last = x.last })
-    → Stands blocks (ops.Take ∷ past) new
+    → QueueStands blocks (ops.Take ∷ past) new
 unfolding waiting
 take_urgent blocks job rest past old new x s lt here are urgents standards table =
     let jobs_are : jobs true (waiting past) ≡ job ∷ rest = rw (← s.urgent) are in
@@ -215,18 +215,18 @@ take_urgent blocks job rest past old new x s lt here are urgents standards table
       table = λ block d less. rw table (taken_at old.table job block past x d (nat_eq job.block block) refl lt next here (s.table block d less));
     }
 
-pub next_urgent : (blocks : ℕ) (job : Job) (rest : List Job) (past : History) (old : JobQueue) → Stands blocks past old → old.urgent.items ≡ job ∷ rest → next_of (waiting past) ≡ Some job
+pub next_urgent : (blocks : ℕ) (job : Job) (rest : List Job) (past : History) (old : JobQueue) → QueueStands blocks past old → old.urgent.items ≡ job ∷ rest → next_of (waiting past) ≡ Some job
 next_urgent blocks job rest past old s are =
     let jobs_are : jobs true (waiting past) ≡ job ∷ rest = rw (← s.urgent) are in
     let kind : some_urgent (waiting past) ≡ true = some_waits (waiting past) job rest jobs_are in
     rw kind (hands_out true (waiting past) job rest jobs_are).first
 
 -- No urgent job waits, and the earliest standard job is taken.
-pub take_standard : (blocks : ℕ) (job : Job) (rest : List Job) (past : History) (old new : JobQueue) (x : BlockState) → Stands blocks past old → job.block < length old.table
-    → x ≡ state_of job.block past
+pub take_standard : (blocks : ℕ) (job : Job) (rest : List Job) (past : History) (old new : JobQueue) (x : BlockState) → QueueStands blocks past old → job.block < length old.table
+    → x ≡ block_state job.block past
     → old.urgent.items ≡ [] → old.standard.items ≡ job ∷ rest → new.urgent.items ≡ [] → new.standard.items ≡ rest
     → new.table ≡ slice_set old.table job.block (record { pending = x.pending; taken = true; last = x.last })
-    → Stands blocks (ops.Take ∷ past) new
+    → QueueStands blocks (ops.Take ∷ past) new
 unfolding waiting
 take_standard blocks job rest past old new x s lt here none are urgents standards table =
     let none_urgent : jobs true (waiting past) ≡ [] = rw (← s.urgent) none in
@@ -240,7 +240,7 @@ take_standard blocks job rest past old new x s lt here none are urgents standard
       table = λ block d less. rw table (taken_at old.table job block past x d (nat_eq job.block block) refl lt next here (s.table block d less));
     }
 
-pub next_standard : (blocks : ℕ) (job : Job) (rest : List Job) (past : History) (old : JobQueue) → Stands blocks past old → old.urgent.items ≡ [] → old.standard.items ≡ job ∷ rest → next_of (waiting past) ≡ Some job
+pub next_standard : (blocks : ℕ) (job : Job) (rest : List Job) (past : History) (old : JobQueue) → QueueStands blocks past old → old.urgent.items ≡ [] → old.standard.items ≡ job ∷ rest → next_of (waiting past) ≡ Some job
 next_standard blocks job rest past old s none are =
     let none_urgent : jobs true (waiting past) ≡ [] = rw (← s.urgent) none in
     let jobs_are : jobs false (waiting past) ≡ job ∷ rest = rw (← s.standard) are in
@@ -248,17 +248,17 @@ next_standard blocks job rest past old s none are =
     rw kind (hands_out false (waiting past) job rest jobs_are).first
 
 -- Nothing waits.
-pub nothing_left : (blocks : ℕ) (past : History) (queue : JobQueue) → Stands blocks past queue → length queue.urgent.items ≡ 0 → length queue.standard.items ≡ 0 → waiting past ≡ []
+pub nothing_left : (blocks : ℕ) (past : History) (queue : JobQueue) → QueueStands blocks past queue → length queue.urgent.items ≡ 0 → length queue.standard.items ≡ 0 → waiting past ≡ []
 nothing_left blocks past queue s urgents standards =
     let many : length queue.urgent.items + length queue.standard.items ≡ length (waiting past) = rw (s.urgent, s.standard) (as_many (waiting past)) in
     let none : length (waiting past) ≡ 0 = omega (arith, many, urgents, standards) in
     nil_from_length (waiting past) none
 
-pub idle_take_at : (block : ℕ) (past : History) → waiting past ≡ [] → state_of block past ≡ state_of block (ops.Take ∷ past)
+pub idle_take_at : (block : ℕ) (past : History) → waiting past ≡ [] → block_state block past ≡ block_state block (ops.Take ∷ past)
 unfolding pending taken
 idle_take_at block past none = rw none refl
 
-pub take_idles : (blocks : ℕ) (past : History) (old new : JobQueue) → Stands blocks past old → waiting past ≡ [] → new.urgent ≡ old.urgent → new.standard ≡ old.standard → new.table ≡ old.table → Stands blocks (ops.Take ∷ past) new
+pub take_idles : (blocks : ℕ) (past : History) (old new : JobQueue) → QueueStands blocks past old → waiting past ≡ [] → new.urgent ≡ old.urgent → new.standard ≡ old.standard → new.table ≡ old.table → QueueStands blocks (ops.Take ∷ past) new
 unfolding waiting
 take_idles blocks past old new s none urgent standard table = record {
   urgent = rw (urgent, none) (rw none at s.urgent);

@@ -1,9 +1,9 @@
 -- What a call of the locked queue tells.
 use Rattle.std.specs.Prelude.{ℕ, List, Result, reverse}
-use Rattle.flt_queue.specs.Queue.{IsAdmitted, answer_q}
+use Rattle.flt_queue.specs.Queue.{IsQueueCallFor, answer_q}
 use Rattle.flt_queue.specs.declared.job.Job.{Job}
 use Rattle.flt_queue.specs.declared.job.QueueOp.{QueueOp}
-use Rattle.flt_queue.specs.Reply.{QueueKind, QueueReply, reply_with}
+use Rattle.flt_queue.specs.Reply.{QueueKind, QueueReply, job_reply_with}
 use Rattle.flt_turn.specs.declared.answer.Answer.{Answer}
 use Rattle.flt_turn.specs.declared.answer.HistoryFull.{HistoryFull}
 use Rattle.flt_turn.specs.Call as turn
@@ -19,11 +19,11 @@ reply_after blocks calls op = answer_q (reverse calls) op
 
 -- The whole answer of a call, with this job if one was taken.
 abbrev pub whole : Answer QueueKind → Job → Answer QueueReply
-whole told job = turn.whole reply_with told job
+whole told job = turn.whole job_reply_with told job
 
 -- A call stands at the place that it was told, and its reply is the queue's after the calls before that place.
 abbrev pub IsCall : Seat → Seat → QueueOp → Answer QueueReply → Type 0
-IsCall before after op told = turn.IsCall IsAdmitted reply_after before after op told
+IsCall before after op told = turn.IsCall IsQueueCallFor reply_after before after op told
 
 -- What a call tells, whether it is made or refused.
 abbrev pub Calls : Seat → Seat → QueueOp → Result (Answer QueueReply) (HistoryFull QueueOp) → Type 0

@@ -5,7 +5,7 @@ use Rattle.flt_queue.specs.declared.job.LastResult.{LastResult}
 use Rattle.flt_queue.specs.declared.job.LastResult.TheVariants.{Never, Pending, Written, Failed}
 use Rattle.flt_queue.specs.declared.job.QueueOp.{QueueOp}
 use Rattle.flt_queue.specs.declared.job.QueueOp.TheVariants as ops
-use Rattle.flt_queue.specs.Reply.{QueueKind, QueueReply, reply_with}
+use Rattle.flt_queue.specs.Reply.{QueueKind, QueueReply, job_reply_with}
 use Rattle.flt_queue.specs.declared.job.QueueReplyOf.TheVariants as replies
 
 -- The calls since the queue was made, the newest first.
@@ -17,11 +17,11 @@ abbrev pub IsJob : ℕ → Job → Type 0
 IsJob blocks job = (job.block < blocks) × (0 < length job.bytes.items) × (length job.bytes.items ≤ 32)
 
 -- The calls that a queue of so many blocks takes.
-abbrev pub IsAdmitted : ℕ → QueueOp → Type 0
-IsAdmitted blocks (ops.Post urgent job) = IsJob blocks job
-IsAdmitted blocks ops.Take = Unit {0}
-IsAdmitted blocks (ops.Done block written) = block < blocks
-IsAdmitted blocks (ops.Ask block) = block < blocks
+abbrev pub IsQueueCallFor : ℕ → QueueOp → Type 0
+IsQueueCallFor blocks (ops.Post urgent job) = IsJob blocks job
+IsQueueCallFor blocks ops.Take = Unit {0}
+IsQueueCallFor blocks (ops.Done block written) = block < blocks
+IsQueueCallFor blocks (ops.Ask block) = block < blocks
 
 -- ---- the jobs that wait
 
@@ -55,9 +55,9 @@ abbrev pub next_of : List Posted → Option Job
 next_of posts = earliest (some_urgent posts) posts
 
 -- Whether it is of this block.
-abbrev pub is_of : ℕ → Option Job → Bool
-is_of block None = false
-is_of block (Some job) = job.block == block
+abbrev pub is_job_of : ℕ → Option Job → Bool
+is_job_of block None = false
+is_job_of block (Some job) = job.block == block
 
 -- ---- what a call does
 
@@ -85,21 +85,21 @@ unfoldable mutual
   pub taken : ℕ → History → Bool
   taken block [] = false
   taken block (ops.Post urgent job ∷ past) = taken block past
-  taken block (ops.Take ∷ past) = if is_of block (next_of (waiting past)) then true else taken block past
+  taken block (ops.Take ∷ past) = if is_job_of block (next_of (waiting past)) then true else taken block past
   taken block (ops.Done done written ∷ past) = if done == block then false else taken block past
   taken block (ops.Ask asked ∷ past) = taken block past
 
 -- What became of a job that was done.
-abbrev pub result_of : Bool → LastResult
-result_of true = Written
-result_of false = Failed
+abbrev pub last_result_of : Bool → LastResult
+last_result_of true = Written
+last_result_of false = Failed
 
 -- The last result of the block that counted.
 abbrev pub last_of : ℕ → History → LastResult
 last_of block [] = Never
 last_of block (ops.Post urgent job ∷ past) = last_of block past
 last_of block (ops.Take ∷ past) = last_of block past
-last_of block (ops.Done done written ∷ past) = if done == block then (if taken block past then result_of written else last_of block past)
+last_of block (ops.Done done written ∷ past) = if done == block then (if taken block past then last_result_of written else last_of block past)
     else last_of block past
 last_of block (ops.Ask asked ∷ past) = last_of block past
 
@@ -129,4 +129,4 @@ IsFor blocks (replies.Last last) = Unit {0}
 
 -- So it is in the answer of this kind, whichever job stands beside it.
 abbrev pub IsForAlone : ℕ → QueueKind → Type 0
-IsForAlone blocks kind = (job : Job) → IsFor blocks (reply_with kind job)
+IsForAlone blocks kind = (job : Job) → IsFor blocks (job_reply_with kind job)

@@ -13,16 +13,16 @@ abbrev pub QueueKind : Type 0
 QueueKind = QueueReplyOf (Unit {0})
 
 -- The same answer, in which a job that was taken is this one.
-abbrev pub reply_with : {J K : Type 0} → QueueReplyOf J → K → QueueReplyOf K
-reply_with replies.Accepted job = replies.Accepted
-reply_with replies.BlockPending job = replies.BlockPending
-reply_with replies.QueueFull job = replies.QueueFull
-reply_with (replies.Job other) job = replies.Job job
-reply_with replies.NoJob job = replies.NoJob
-reply_with replies.Noted job = replies.Noted
-reply_with replies.NotTaken job = replies.NotTaken
-reply_with (replies.Last last) job = replies.Last last
+abbrev pub job_reply_with : {J K : Type 0} → QueueReplyOf J → K → QueueReplyOf K
+job_reply_with replies.Accepted job = replies.Accepted
+job_reply_with replies.BlockPending job = replies.BlockPending
+job_reply_with replies.QueueFull job = replies.QueueFull
+job_reply_with (replies.Job other) job = replies.Job job
+job_reply_with replies.NoJob job = replies.NoJob
+job_reply_with replies.Noted job = replies.Noted
+job_reply_with replies.NotTaken job = replies.NotTaken
+job_reply_with (replies.Last last) job = replies.Last last
 
 -- Whichever job stands beside it, the kind is this answer.
 abbrev pub MakesAlone : QueueKind → QueueReply → Type 0
-MakesAlone kind reply = (job : Job) → reply_with kind job ≡ reply
+MakesAlone kind reply = (job : Job) → job_reply_with kind job ≡ reply

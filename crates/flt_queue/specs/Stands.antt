@@ -12,11 +12,11 @@ jobs true (post ∷ posts) = if post.urgent then post.job ∷ jobs true posts el
 jobs false (post ∷ posts) = if post.urgent then jobs false posts else post.job ∷ jobs false posts
 
 -- What is known of a block.
-abbrev pub state_of : ℕ → History → BlockState
-state_of block past = record { pending = pending block past; taken = taken block past; last = last_of block past }
+abbrev pub block_state : ℕ → History → BlockState
+block_state block past = record { pending = pending block past; taken = taken block past; last = last_of block past }
 
 -- The queue of so many blocks is as after these calls.
-pub record Stands (blocks : ℕ) (past : History) (queue : JobQueue) : Type 0 where
+pub record QueueStands (blocks : ℕ) (past : History) (queue : JobQueue) : Type 0 where
   pub urgent : queue.urgent.items ≡ jobs true (waiting past)
   pub standard : queue.standard.items ≡ jobs false (waiting past)
-  pub table : (block : ℕ) (d : BlockState) → block < 40 → slice_index_or queue.table block d ≡ state_of block past
+  pub table : (block : ℕ) (d : BlockState) → block < 40 → slice_index_or queue.table block d ≡ block_state block past

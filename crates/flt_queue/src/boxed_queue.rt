@@ -1,9 +1,9 @@
 //! What lies under the lock.
 ghost use Rattle.std.specs.Prelude.{reverse};
 ghost use Rattle.flt_queue.specs.Call.{reply_after};
-ghost use Rattle.flt_queue.specs.Queue.{IsAdmitted};
-ghost use Rattle.flt_queue.specs.Reply.{reply_with};
-ghost use Rattle.flt_queue.specs.Stands.{Stands};
+ghost use Rattle.flt_queue.specs.Queue.{IsQueueCallFor};
+ghost use Rattle.flt_queue.specs.Reply.{job_reply_with};
+ghost use Rattle.flt_queue.specs.Stands.{QueueStands};
 
 use crate::job::{Job, QueueKind, QueueOp, QueueReply};
 use crate::queue::JobQueue;
@@ -28,9 +28,9 @@ impl Machine for BoxedQueue {
 
     ghost start = { λ guarded. guarded.queue.value.blocks };
 
-    ghost admits = { IsAdmitted };
+    ghost admits = { IsQueueCallFor };
 
-    ghost stands_for = { λ guarded blocks ops. Stands blocks (reverse ops) guarded.queue.value };
+    ghost stands_for = { λ guarded blocks ops. QueueStands blocks (reverse ops) guarded.queue.value };
 
     ghost answer = { reply_after };
 
@@ -53,7 +53,7 @@ impl StepInto for BoxedQueue {
 
     type Payload = Job;
 
-    ghost reply_with = { λ kind job. reply_with kind job };
+    ghost reply_with = { λ kind job. job_reply_with kind job };
 
     #[inline(always)]
     fn step_into(&mut self, _context: &(), op: &QueueOp, job: &mut Job) -> QueueKind {

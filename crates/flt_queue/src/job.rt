@@ -79,12 +79,12 @@ pub enum QueueReplyOf<J> {
 
 impl<J: Drop> QueueReplyOf<J> {
     ghost use Rattle.std.specs.Prelude.{◌≡◌};
-    ghost use Rattle.flt_queue.specs.Reply.{reply_with};
+    ghost use Rattle.flt_queue.specs.Reply.{job_reply_with};
 
     /// The same answer, in which a job that was taken is this one.
     #[inline(always)]
     pub fn with<K: Drop>(self, job: K) -> QueueReplyOf<K>
-        ensures { result ≡ reply_with self job }
+        ensures { result ≡ job_reply_with self job }
     {
         match self {
             QueueReplyOf::Accepted => QueueReplyOf::Accepted,

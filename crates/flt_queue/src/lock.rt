@@ -2,10 +2,10 @@
 ghost use Rattle.std.specs.Prelude.{◌≡◌, ◌<◌, ◌≤◌, ◌+◌, ◌^◌, ◌∷◌, IfOk, OnErr, All, length, reverse};
 ghost use mathlib.Core.List.{IsPrefix};
 ghost use Rattle.flt_queue.specs.declared.job.QueueOp.TheVariants as ops;
-ghost use Rattle.flt_queue.specs.Queue.{IsAdmitted, IsFor, IsJob};
-ghost use Rattle.flt_queue.specs.Stands.{Stands};
+ghost use Rattle.flt_queue.specs.Queue.{IsQueueCallFor, IsFor, IsJob};
+ghost use Rattle.flt_queue.specs.Stands.{QueueStands};
 ghost use Rattle.flt_queue.specs.Call.{Calls, CallsAlone, CallsInto};
-ghost use Rattle.flt_queue.specs.Reply.{reply_with};
+ghost use Rattle.flt_queue.specs.Reply.{job_reply_with};
 ghost use Rattle.flt_turn.specs.Journal.{Interleaves, ops_of};
 ghost use Rattle.flt_turn.specs.Seats.{IsSeatOf, main_seat, split_off, split_seat, joined_seat};
 
@@ -67,7 +67,7 @@ impl QueueLock {
         job: &mut Job,
     ) -> QueueTold
         requires lock { IsSeatOf self.now.turn seat.old }
-        requires admitted { IsAdmitted seat.old.start op }
+        requires admitted { IsQueueCallFor seat.old.start op }
         ensures call { CallsInto seat.old seat.new op job.new result }
         ensures kept { OnErr result (job.new ≡ job.old) }
     {
@@ -78,7 +78,7 @@ impl QueueLock {
     #[inline(always)]
     pub fn call<R: Wait>(&self, rt: &R, seat: &mut QueueSeat, op: QueueOp) -> QueueAnswer
         requires lock { IsSeatOf self.now.turn seat.old }
-        requires admitted { IsAdmitted seat.old.start op }
+        requires admitted { IsQueueCallFor seat.old.start op }
         ensures { Calls seat.old seat.new op result }
     {
         let mut job = Job::room();
@@ -112,7 +112,7 @@ impl QueueLock {
     pub fn take_into<R: Wait>(&self, rt: &R, seat: &mut QueueSeat, job: &mut Job) -> QueueTold
         requires lock { IsSeatOf self.now.turn seat.old }
         ensures call { CallsInto seat.old seat.new ops.Take job.new result }
-        ensures job { IfOk result (λ told. IsFor seat.old.start (reply_with told.reply job.new)) }
+        ensures job { IfOk result (λ told. IsFor seat.old.start (job_reply_with told.reply job.new)) }
         ensures kept { OnErr result (job.new ≡ job.old) }
     {
         self.call_into(rt, seat, QueueOp::Take, job)
@@ -189,8 +189,8 @@ impl QueueLock {
         ensures seen { IsPrefix main.seen result.journal.items }
         ensures olds { All (λ old. IsPrefix old result.journal.items) main.olds }
         ensures calls { Interleaves result.journal.items ((main.number, main.mine) ∷ main.ended) }
-        ensures admitted { All (λ entry. IsAdmitted main.start entry.op) result.journal.items }
-        ensures stands { ∥ Stands main.start (reverse (ops_of result.journal.items)) result.queue.value ∥₁ }
+        ensures admitted { All (λ entry. IsQueueCallFor main.start entry.op) result.journal.items }
+        ensures stands { ∥ QueueStands main.start (reverse (ops_of result.journal.items)) result.queue.value ∥₁ }
     {
         let QueueLock { turn } = self;
         let Vault { journal, machine } = turn.close(main);

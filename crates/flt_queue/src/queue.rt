@@ -1,8 +1,8 @@
 //! The queue itself: two lists of jobs, and a table of the blocks.
 ghost use Rattle.std.specs.Prelude.{◌≡◌, ◌≤◌, ◌<◌, ◌∷◌, ◌++◌, [], ℕ, All, IfOk, length, reverse};
 ghost use Rattle.circular_buffer.specs.Buffer.{buffer};
-ghost use Rattle.flt_queue.specs.Queue.{History, IsAdmitted, IsFor, IsForAlone, IsJob, answer_q, result_of as result_is};
-ghost use Rattle.flt_queue.specs.Reply.{MakesAlone, reply_with};
+ghost use Rattle.flt_queue.specs.Queue.{History, IsQueueCallFor, IsFor, IsForAlone, IsJob, answer_q, last_result_of as result_is};
+ghost use Rattle.flt_queue.specs.Reply.{MakesAlone, job_reply_with};
 ghost use Rattle.flt_queue.specs.declared.job.QueueOp.TheVariants as ops;
 
 use crate::job::{BLOCKS, Job, LastResult, QueueKind, QueueOp, QueueReply, WAITING};
@@ -77,14 +77,14 @@ fn take_first(jobs: &mut HeapCircularBuffer<Job>) -> Job
 }
 
 impl JobQueue {
-    ghost use Rattle.flt_queue.specs.Stands.{Stands};
+    ghost use Rattle.flt_queue.specs.Stands.{QueueStands};
 
     /// A queue of this many blocks, at most 40, that took no call yet. No later call takes memory. At `Err` there was not enough
     /// memory: try when it is free.
     pub fn new(alloc: Global, blocks: u8) -> Result<JobQueue, AllocError>
         requires { blocks ≤ 40 }
         ensures blocks { IfOk result (λ queue. queue.blocks ≡ blocks) }
-        ensures stands { IfOk result (Stands blocks []) }
+        ensures stands { IfOk result (QueueStands blocks []) }
     {
         let resting = BlockState {
             pending: false,
@@ -104,10 +104,10 @@ impl JobQueue {
     /// Carries out a call, and answers it.
     #[inline(always)]
     pub fn apply(&mut self, op: &QueueOp) -> QueueReply
-        requires admitted { IsAdmitted self.old.blocks op.now }
+        requires admitted { IsQueueCallFor self.old.blocks op.now }
         ensures blocks { self.new.blocks ≡ self.old.blocks }
-        ensures stands { (past : History) → Stands self.old.blocks past self.old → Stands self.old.blocks (op.now ∷ past) self.new }
-        ensures answer { (past : History) → Stands self.old.blocks past self.old → result ≡ answer_q past op.now }
+        ensures stands { (past : History) → QueueStands self.old.blocks past self.old → QueueStands self.old.blocks (op.now ∷ past) self.new }
+        ensures answer { (past : History) → QueueStands self.old.blocks past self.old → result ≡ answer_q past op.now }
         ensures job { IsFor self.old.blocks result }
     {
         let mut job = Job::room();
@@ -118,11 +118,11 @@ impl JobQueue {
     /// what `job` holds, so that no reply of a job's size is moved. Where no job is taken, `job` holds anything.
     #[inline(always)]
     pub fn apply_into(&mut self, op: &QueueOp, job: &mut Job) -> QueueKind
-        requires admitted { IsAdmitted self.old.blocks op.now }
+        requires admitted { IsQueueCallFor self.old.blocks op.now }
         ensures blocks { self.new.blocks ≡ self.old.blocks }
-        ensures stands { (past : History) → Stands self.old.blocks past self.old → Stands self.old.blocks (op.now ∷ past) self.new }
-        ensures answer { (past : History) → Stands self.old.blocks past self.old → reply_with result job.new ≡ answer_q past op.now }
-        ensures job { IsFor self.old.blocks (reply_with result job.new) }
+        ensures stands { (past : History) → QueueStands self.old.blocks past self.old → QueueStands self.old.blocks (op.now ∷ past) self.new }
+        ensures answer { (past : History) → QueueStands self.old.blocks past self.old → job_reply_with result job.new ≡ answer_q past op.now }
+        ensures job { IsFor self.old.blocks (job_reply_with result job.new) }
     {
         match op {
             QueueOp::Post { urgent, job } => self.post(*urgent, job),
@@ -136,8 +136,8 @@ impl JobQueue {
     fn post(&mut self, urgent: bool, job: &Job) -> QueueKind
         requires { IsJob self.old.blocks job.now }
         ensures blocks { self.new.blocks ≡ self.old.blocks }
-        ensures stands { (past : History) → Stands self.old.blocks past self.old → Stands self.old.blocks (ops.Post urgent job.now ∷ past) self.new }
-        ensures answer { (past : History) → Stands self.old.blocks past self.old → MakesAlone result (answer_q past (ops.Post urgent job.now)) }
+        ensures stands { (past : History) → QueueStands self.old.blocks past self.old → QueueStands self.old.blocks (ops.Post urgent job.now ∷ past) self.new }
+        ensures answer { (past : History) → QueueStands self.old.blocks past self.old → MakesAlone result (answer_q past (ops.Post urgent job.now)) }
         ensures job { IsForAlone self.old.blocks result }
     {
         let block = job.block as usize;
@@ -159,9 +159,9 @@ impl JobQueue {
     #[inline(always)]
     fn take(&mut self, job: &mut Job) -> QueueKind
         ensures blocks { self.new.blocks ≡ self.old.blocks }
-        ensures stands { (past : History) → Stands self.old.blocks past self.old → Stands self.old.blocks (ops.Take ∷ past) self.new }
-        ensures answer { (past : History) → Stands self.old.blocks past self.old → reply_with result job.new ≡ answer_q past ops.Take }
-        ensures job { IsFor self.old.blocks (reply_with result job.new) }
+        ensures stands { (past : History) → QueueStands self.old.blocks past self.old → QueueStands self.old.blocks (ops.Take ∷ past) self.new }
+        ensures answer { (past : History) → QueueStands self.old.blocks past self.old → job_reply_with result job.new ≡ answer_q past ops.Take }
+        ensures job { IsFor self.old.blocks (job_reply_with result job.new) }
     {
         if !self.urgent.is_empty() {
             *job = take_first(&mut self.urgent);
@@ -178,8 +178,8 @@ impl JobQueue {
     fn done(&mut self, block: u8, written: bool) -> QueueKind
         requires { block < self.old.blocks }
         ensures blocks { self.new.blocks ≡ self.old.blocks }
-        ensures stands { (past : History) → Stands self.old.blocks past self.old → Stands self.old.blocks (ops.Done block written ∷ past) self.new }
-        ensures answer { (past : History) → Stands self.old.blocks past self.old → MakesAlone result (answer_q past (ops.Done block written)) }
+        ensures stands { (past : History) → QueueStands self.old.blocks past self.old → QueueStands self.old.blocks (ops.Done block written ∷ past) self.new }
+        ensures answer { (past : History) → QueueStands self.old.blocks past self.old → MakesAlone result (answer_q past (ops.Done block written)) }
         ensures job { IsForAlone self.old.blocks result }
     {
         if !self.table[block as usize].taken {
@@ -196,8 +196,8 @@ impl JobQueue {
     #[inline(always)]
     fn ask(&self, block: u8) -> QueueKind
         requires { block < self.now.blocks }
-        ensures stands { (past : History) → Stands self.now.blocks past self.now → Stands self.now.blocks (ops.Ask block ∷ past) self.now }
-        ensures answer { (past : History) → Stands self.now.blocks past self.now → MakesAlone result (answer_q past (ops.Ask block)) }
+        ensures stands { (past : History) → QueueStands self.now.blocks past self.now → QueueStands self.now.blocks (ops.Ask block ∷ past) self.now }
+        ensures answer { (past : History) → QueueStands self.now.blocks past self.now → MakesAlone result (answer_q past (ops.Ask block)) }
         ensures job { IsForAlone self.now.blocks result }
     {
         let state = &self.table[block as usize];

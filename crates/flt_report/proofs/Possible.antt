@@ -7,7 +7,7 @@ use Rattle.std.proofs.lemmas.List.Elements.{All-nil, All-cons}
 use Rattle.std.proofs.lemmas.List.Sums.{sum_by-cons}
 use Rattle.flt_config.specs.declared.config.Config.{Config}
 use Rattle.flt_step.specs.Part.{PartOf, part_of, parts_of}
-use Rattle.flt_step.specs.Step.{is_step_in, is_lane_step, is_lane_in, is_part_in, are_parts_in, arms_of, arms_of_part, lanes_of, lanes_of_part, store_lanes}
+use Rattle.flt_step.specs.Step.{is_step_in, is_lane_step, is_lane_in, is_part_in, are_parts_in, arms_of_parts, arms_of_part, lanes_of_parts, lanes_of_part, store_lanes}
 use Rattle.flt_step.specs.Step as script
 use Rattle.flt_step.specs.declared.step.Part.{Part}
 use Rattle.flt_step.specs.declared.step.Part.TheVariants.{One, Lanes}
@@ -58,7 +58,7 @@ possible_lives {A = A} config (life ∷ rest) all =
 
 -- ---- arms
 
-same_arm : (step : Step) → arm_count (action_of step) ≡ script.arm_count step
+same_arm : (step : Step) → arm_count (action_of step) ≡ script.arms_of_step step
 same_arm (steps.Report event report) = refl
 same_arm (steps.Show event) = refl
 same_arm (steps.Cycle cycle) = refl
@@ -77,18 +77,18 @@ same_part : (part : PartOf Step) → arms_in part ≡ arms_of_part part
 same_part (inl step) = same_arm step
 same_part (inr lanes) = refl
 
-same_arms : (parts : List (PartOf Step)) → sum_by arms_in parts ≡ arms_of parts
+same_arms : (parts : List (PartOf Step)) → sum_by arms_in parts ≡ arms_of_parts parts
 same_arms parts = ap (λ (count : PartOf Step → ℕ). sum_by count parts) (λ i part. same_part part i)
 
-pub all_arms_same : {A : Type 0} (lives : List (Vec Part A)) → sum_by (λ (life : Vec Part A). sum_by arms_in (parts_of life.items)) lives ≡ sum_by (λ (life : Vec Part A). arms_of (parts_of life.items)) lives
+pub all_arms_same : {A : Type 0} (lives : List (Vec Part A)) → sum_by (λ (life : Vec Part A). sum_by arms_in (parts_of life.items)) lives ≡ sum_by (λ (life : Vec Part A). arms_of_parts (parts_of life.items)) lives
 all_arms_same {A = A} lives = ap (λ (count : Vec Part A → ℕ). sum_by count lives) (λ i life. same_arms (parts_of life.items) i)
 
 -- ---- lanes
 
-same_width : (part : PartOf Step) (parts : List (PartOf Step)) → lanes_of (part ∷ parts) ≡ lanes_of_part part + lanes_of parts
+same_width : (part : PartOf Step) (parts : List (PartOf Step)) → lanes_of_parts (part ∷ parts) ≡ lanes_of_part part + lanes_of_parts parts
 same_width part parts = sum_by-cons lanes_of_part part parts
 
-pub widths_same : (parts : List (PartOf Step)) → widths parts ≡ lanes_of parts
+pub widths_same : (parts : List (PartOf Step)) → widths parts ≡ lanes_of_parts parts
 widths_same [] = refl
 widths_same (inl step ∷ rest) =
     let one = same_width (inl step) rest in
@@ -100,14 +100,14 @@ widths_same (inr lanes ∷ rest) =
     omega (arith, one, those)
 
 pub all_widths_same : {A : Type 0} (lives : List (Vec Part A))
-    → sum_by (λ (life : Vec Part A). length life.items + widths (parts_of life.items)) lives ≡ sum_by (λ (life : Vec Part A). length life.items + lanes_of (parts_of life.items)) lives
+    → sum_by (λ (life : Vec Part A). length life.items + widths (parts_of life.items)) lives ≡ sum_by (λ (life : Vec Part A). length life.items + lanes_of_parts (parts_of life.items)) lives
 all_widths_same {A = A} lives = ap (λ (count : Vec Part A → ℕ). sum_by count lives) (λ i life. length life.items + widths_same (parts_of life.items) i)
 
 -- Each life has few lanes.
-pub each_few : {A : Type 0} (lives : List (Vec Part A)) (most : ℕ) → sum_by (λ (life : Vec Part A). length life.items + lanes_of (parts_of life.items)) lives ≤ most
+pub each_few : {A : Type 0} (lives : List (Vec Part A)) (most : ℕ) → sum_by (λ (life : Vec Part A). length life.items + lanes_of_parts (parts_of life.items)) lives ≤ most
     → All (λ (life : Vec Part A). widths (parts_of life.items) ≤ most) lives
 each_few [] most few = All-nil _
 each_few {A = A} (life ∷ rest) most few =
-    let one = sum_by-cons (λ (life : Vec Part A). length life.items + lanes_of (parts_of life.items)) life rest in
+    let one = sum_by-cons (λ (life : Vec Part A). length life.items + lanes_of_parts (parts_of life.items)) life rest in
     let same = widths_same (parts_of life.items) in
     All-cons (λ (life : Vec Part A). widths (parts_of life.items) ≤ most) life rest (omega (arith, few, one, same)) (each_few rest most (omega (arith, few, one)))

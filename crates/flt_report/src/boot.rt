@@ -4,7 +4,7 @@ ghost use Rattle.std.specs.Vec.{vec_capacity};
 ghost use Rattle.flt_restore.specs.declared.fault.StartFault.TheVariants as faults;
 ghost use Rattle.flt_report.specs.Boot.{place_text, mark_text, refusal_text, boot_text, boot_line};
 ghost use Rattle.flt_step.specs.Puts.{Puts};
-ghost use Rattle.flt_io.specs.Status.{number_of};
+ghost use Rattle.flt_io.specs.Status.{status_number};
 ghost use Rattle.flt_life_model.specs.Statuses.{status_by};
 
 use flt_io::Status;
@@ -110,7 +110,7 @@ pub fn put_boot(life: u32, boot: &Boot, out: &mut Vec<u8>) -> Result<(), AllocEr
 
 /// The status of a run by how its last life began.
 pub fn status_by(boot: &Boot) -> Status
-    ensures { number_of result ≡ status_by boot.now }
+    ensures { status_number result ≡ status_by boot.now }
 {
     match boot {
         Boot::Started { .. } => Status::Done,

@@ -12,7 +12,7 @@ use Rattle.flt_store_model.specs.Holding.{Generation, Fault, held_by, either_cop
 use Rattle.flt_restore.specs.declared.commit.CommitCopy.{CommitCopy}
 use Rattle.flt_restore.specs.declared.fault.StartFault.{StartFault}
 use Rattle.flt_restore.specs.declared.fault.StartFault.TheVariants.{Flash, Damaged, OtherConfig, SequenceSpent}
-use Rattle.flt_restore.specs.Judging.{Tells, IsReadFrom, IsOfCopy, IsSource}
+use Rattle.flt_restore.specs.Judging.{HasFaultCause, IsReadFrom, IsOfCopy, IsSource}
 use Rattle.flt_restore.specs.Restored.{HasBytes, IsJudged, generation, IsCopy, IsCommitOf, IsRestored, Refuses}
 
 -- ---- the copy that was read
@@ -67,7 +67,7 @@ module _ (c : Config) (start before after : BlocksState) (values : before.value 
     )
   ]
 
-  pub refused : (fault : StartFault) → Tells c before after (held_by c before.value content) fault → HasRisenBy 0 start.device.faults before.device.faults → Refuses c start after fault
+  pub refused : (fault : StartFault) → HasFaultCause c before after (held_by c before.value content) fault → HasRisenBy 0 start.device.faults before.device.faults → Refuses c start after fault
   refused Flash tells rises = omega (arith, tells, rises)
   refused (Damaged place) tells rises = judged _ tells
   refused (OtherConfig found wanted) tells rises = (judged _ tells.0, tells.1)

@@ -13,7 +13,7 @@ use Rattle.flt_store_model.specs.Reading.{commit_in}
 use Rattle.flt_store_model.specs.Holding.{Generation, Fault, damaged_at, ◌>>=◌, marked, parts_read, generation_of, named, applications_judged, excess_judged, held_by}
 use Rattle.flt_store_model.proofs.ImageLaws.{commits_are_read}
 use Rattle.flt_restore.specs.declared.fault.StartFault.{StartFault}
-use Rattle.flt_restore.specs.Judging.{Tells}
+use Rattle.flt_restore.specs.Judging.{HasFaultCause}
 use Rattle.flt_restore.proofs.Telling.{tells_first, tells_next}
 
 module _ (c : Config) (value : ℕ → Content) where
@@ -38,9 +38,9 @@ module _ (c : Config) (value : ℕ → Content) where
       named_bytes raw (Some commit) (sym is) ∙ ap (λ (r : Result Persist Fault). r >>= (λ p. Ok (record { number = commit.generation; state = p }))) read
 
   pub parts_refused : (before after : BlocksState) (raw : List ℕ) (commit : Commit) (fault : StartFault) → Some commit ≡ commit_in c raw
-      → Tells c before after (parts_read c value commit parts) fault → Tells c before after (named c value (bytes raw)) fault
+      → HasFaultCause c before after (parts_read c value commit parts) fault → HasFaultCause c before after (named c value (bytes raw)) fault
   parts_refused before after raw commit fault is tells =
-      subst (λ (r : Result Generation Fault). Tells c before after r fault) (sym (named_bytes raw (Some commit) (sym is)))
+      subst (λ (r : Result Generation Fault). HasFaultCause c before after r fault) (sym (named_bytes raw (Some commit) (sym is)))
       (tells_first c before after (parts_read c value commit parts) (λ state. Ok (record { number = commit.generation; state = state })) fault tells)
 
 pub read_form : (c : Config) (raw : List ℕ) (commit : Commit) → Some commit ≡ commit_in c raw → IsCommit c commit
@@ -57,25 +57,25 @@ module _ (c : Config) (value : ℕ → Content) (commit : Content) where
   abbrev after_mark : Unit {0} → Result Generation Fault
   after_mark _ = named c value commit >>= after_named
 
-  pub mark_refused : (before after : BlocksState) (fault : StartFault) → Tells c before after (marked c (value mark_number) commit) fault → Tells c before after (held_by c value commit) fault
+  pub mark_refused : (before after : BlocksState) (fault : StartFault) → HasFaultCause c before after (marked c (value mark_number) commit) fault → HasFaultCause c before after (held_by c value commit) fault
   unfolding held_by
   mark_refused before after fault tells = tells_first c before after (marked c (value mark_number) commit) after_mark fault tells
 
   module _ (own : marked c (value mark_number) commit ≡ Ok tt) where
-    pub named_refused : (before after : BlocksState) (fault : StartFault) → Tells c before after (named c value commit) fault → Tells c before after (held_by c value commit) fault
+    pub named_refused : (before after : BlocksState) (fault : StartFault) → HasFaultCause c before after (named c value commit) fault → HasFaultCause c before after (held_by c value commit) fault
     unfolding held_by
     named_refused before after fault tells =
         tells_next c before after (marked c (value mark_number) commit) after_mark tt fault own (tells_first c before after (named c value commit) after_named fault tells)
 
     module _ (g : Generation) (names : named c value commit ≡ Ok g) where
-      pub applications_refused : (before after : BlocksState) (fault : StartFault) → Tells c before after (applications_judged value) fault → Tells c before after (held_by c value commit) fault
+      pub applications_refused : (before after : BlocksState) (fault : StartFault) → HasFaultCause c before after (applications_judged value) fault → HasFaultCause c before after (held_by c value commit) fault
       unfolding held_by
       applications_refused before after fault tells =
           tells_next c before after (marked c (value mark_number) commit) after_mark tt fault own
           (tells_next c before after (named c value commit) after_named g fault names (tells_first c before after (applications_judged value) (with_excess g) fault tells))
 
       module _ (fine : applications_judged value ≡ Ok tt) where
-        pub excess_refused : (before after : BlocksState) (fault : StartFault) → Tells c before after (excess_judged c value) fault → Tells c before after (held_by c value commit) fault
+        pub excess_refused : (before after : BlocksState) (fault : StartFault) → HasFaultCause c before after (excess_judged c value) fault → HasFaultCause c before after (held_by c value commit) fault
         unfolding held_by
         excess_refused before after fault tells =
             tells_next c before after (marked c (value mark_number) commit) after_mark tt fault own

@@ -12,7 +12,7 @@ use Rattle.flt_store_model.specs.Holding.{Fault, ◌>>=◌, with_named, parts_re
 use Rattle.flt_restore.specs.declared.fault.StartFault.{StartFault}
 use Rattle.flt_restore.specs.declared.fault.StartFault.TheVariants.{Flash, Damaged, OtherConfig, SequenceSpent}
 use Rattle.flt_restore.specs.Found.{Reads}
-use Rattle.flt_restore.specs.Judging.{Tells}
+use Rattle.flt_restore.specs.Judging.{HasFaultCause}
 use Rattle.flt_restore.proofs.Telling.{same_values, tells_from, tells_next}
 
 module _ (c : Config) (value : ℕ → Content) (commit : Commit) where
@@ -29,7 +29,7 @@ module _ (c : Config) (value : ℕ → Content) (commit : Commit) where
     | inr past ↦ let all : count ≡ suc total = omega (arith, within, past) in subst (λ (n : ℕ). parts_read c value commit n ≡ Err fault) all is
   ]
 
-  tells_all : (before after : BlocksState) (count : ℕ) (fault : StartFault) → count ≤ parts → Tells c before after (parts_read c value commit count) fault → Tells c before after (parts_read c value commit parts) fault
+  tells_all : (before after : BlocksState) (count : ℕ) (fault : StartFault) → count ≤ parts → HasFaultCause c before after (parts_read c value commit count) fault → HasFaultCause c before after (parts_read c value commit parts) fault
   tells_all before after count Flash within tells = tells
   tells_all before after count (Damaged place) within tells = stops count parts _ within tells
   tells_all before after count (OtherConfig found wanted) within tells = (stops count parts _ within tells.0, tells.1)
@@ -37,7 +37,7 @@ module _ (c : Config) (value : ℕ → Content) (commit : Commit) where
 
   -- A fault of one part is that of all.
   fault_of_all : (before after : BlocksState) (count : ℕ) (out : Persist) (fault : StartFault) → count < parts → parts_read c value commit count ≡ Ok out
-      → Tells c before after (with_named c value commit (first_part + count) out) fault → Tells c before after (parts_read c value commit parts) fault
+      → HasFaultCause c before after (with_named c value commit (first_part + count) out) fault → HasFaultCause c before after (parts_read c value commit parts) fault
   unfolding parts_read
   fault_of_all before after count out fault below is tells =
       tells_all before after (suc count) fault (omega (arith, below)) (tells_next c before after (parts_read c value commit count) (with_named c value commit (first_part + count)) out fault is tells)
@@ -54,9 +54,9 @@ module _ (c : Config) (before middle : BlocksState) (reads : Reads before middle
       subst (λ (n : ℕ). parts_read c before.value commit n ≡ Ok next) count
       (one_more c before.value commit (id - first_part) out next is (subst (λ (n : ℕ). with_named c before.value commit n out ≡ Ok next) (sym at) here))
 
-  pub part_refused : (after : BlocksState) (fault : StartFault) → Tells c middle after (with_named c middle.value commit id out) fault → Tells c before after (parts_read c before.value commit parts) fault
+  pub part_refused : (after : BlocksState) (fault : StartFault) → HasFaultCause c middle after (with_named c middle.value commit id out) fault → HasFaultCause c before after (parts_read c before.value commit parts) fault
   part_refused after fault tells =
-      let here : Tells c middle after (with_named c before.value commit id out) fault =
-      subst (λ (value : ℕ → Content). Tells c middle after (with_named c value commit id out) fault) (same_values before middle reads) tells in
+      let here : HasFaultCause c middle after (with_named c before.value commit id out) fault =
+      subst (λ (value : ℕ → Content). HasFaultCause c middle after (with_named c value commit id out) fault) (same_values before middle reads) tells in
       fault_of_all c before.value commit before after (id - first_part) out fault (omega (arith, low, high)) is
-      (subst (λ (n : ℕ). Tells c before after (with_named c before.value commit n out) fault) (sym at) (tells_from c before middle after _ fault reads here))
+      (subst (λ (n : ℕ). HasFaultCause c before after (with_named c before.value commit n out) fault) (sym at) (tells_from c before middle after _ fault reads here))

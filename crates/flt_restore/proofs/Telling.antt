@@ -10,7 +10,7 @@ use Rattle.flt_store_model.specs.Holding.{Fault, damaged, other, ◌>>=◌}
 use Rattle.flt_restore.specs.declared.fault.StartFault.{StartFault}
 use Rattle.flt_restore.specs.declared.fault.StartFault.TheVariants.{Flash, Damaged, OtherConfig, SequenceSpent}
 use Rattle.flt_restore.specs.Found.{Reads}
-use Rattle.flt_restore.specs.Judging.{told_as, as_told, Tells}
+use Rattle.flt_restore.specs.Judging.{told_as, as_told, HasFaultCause}
 
 pub no_reads : (state : BlocksState) → Reads state state
 no_reads state = record { values = λ block. refl; calls = no_call state; stays = λ is. is; image = λ is. refl; spent = refl }
@@ -38,7 +38,7 @@ handed_on P (Err e) fault is holds = subst P (sym is) holds
 
 -- The fault of a first step is that of the whole.
 pub tells_first : {A B : Type 0} (c : Config) (before after : BlocksState) (judged : Result A Fault) (next : A → Result B Fault) (fault : StartFault)
-    → Tells c before after judged fault → Tells c before after (judged >>= next) fault
+    → HasFaultCause c before after judged fault → HasFaultCause c before after (judged >>= next) fault
 tells_first {A} {B} c before after judged next Flash tells = tells
 tells_first {A} {B} c before after judged next (Damaged place) tells = ap (λ (r : Result A Fault). r >>= next) tells
 tells_first {A} {B} c before after judged next (OtherConfig found wanted) tells = (ap (λ (r : Result A Fault). r >>= next) tells.0, tells.1)
@@ -46,28 +46,28 @@ tells_first {A} {B} c before after judged next SequenceSpent tells = absurd tell
 
 -- And that of the next one, where the first had none.
 pub tells_next : {A B : Type 0} (c : Config) (before after : BlocksState) (judged : Result A Fault) (next : A → Result B Fault) (value : A) (fault : StartFault)
-    → judged ≡ Ok value → Tells c before after (next value) fault → Tells c before after (judged >>= next) fault
-tells_next {A} {B} c before after judged next value fault is tells = subst (λ (r : Result A Fault). Tells c before after (r >>= next) fault) (sym is) tells
+    → judged ≡ Ok value → HasFaultCause c before after (next value) fault → HasFaultCause c before after (judged >>= next) fault
+tells_next {A} {B} c before after judged next value fault is tells = subst (λ (r : Result A Fault). HasFaultCause c before after (r >>= next) fault) (sym is) tells
 
 -- A fault that is answered later is answered from the beginning.
 pub tells_from : {A : Type 0} (c : Config) (before middle after : BlocksState) (judged : Result A Fault) (fault : StartFault)
-    → Reads before middle → Tells c middle after judged fault → Tells c before after judged fault
+    → Reads before middle → HasFaultCause c middle after judged fault → HasFaultCause c before after judged fault
 tells_from c before middle after judged Flash reads tells = rises before middle after reads tells
 tells_from c before middle after judged (Damaged place) reads tells = tells
 tells_from c before middle after judged (OtherConfig found wanted) reads tells = tells
 tells_from c before middle after judged SequenceSpent reads tells = absurd tells
 
 -- What was judged without a read is answered as it is.
-tells_judged : {A : Type 0} (c : Config) (before after : BlocksState) (judged : Result A Fault) (fault : StartFault) → Err fault ≡ as_told c judged → Tells c before after judged fault
+tells_judged : {A : Type 0} (c : Config) (before after : BlocksState) (judged : Result A Fault) (fault : StartFault) → Err fault ≡ as_told c judged → HasFaultCause c before after judged fault
 tells_judged {A} c before after (Ok value) fault is = absurd (cc)
 tells_judged {A} c before after (Err (damaged place)) fault is =
     let same : Damaged place ≡ fault = cc in
-    let told : Tells {A = A} c before after (Err (damaged place)) (Damaged place) = refl in
-    subst (λ (f : StartFault). Tells {A = A} c before after (Err (damaged place)) f) same told
+    let told : HasFaultCause {A = A} c before after (Err (damaged place)) (Damaged place) = refl in
+    subst (λ (f : StartFault). HasFaultCause {A = A} c before after (Err (damaged place)) f) same told
 tells_judged {A} c before after (Err (other mark)) fault is =
     let same : told_as c (other mark) ≡ fault = cc in
-    let told : Tells {A = A} c before after (Err (other mark)) (told_as c (other mark)) = (refl, refl) in
-    subst (λ (f : StartFault). Tells {A = A} c before after (Err (other mark)) f) same told
+    let told : HasFaultCause {A = A} c before after (Err (other mark)) (told_as c (other mark)) = (refl, refl) in
+    subst (λ (f : StartFault). HasFaultCause {A = A} c before after (Err (other mark)) f) same told
 
 pub judged_ok : {A : Type 0} (c : Config) (judged : Result A Fault) (value : A) → Ok value ≡ as_told c judged → judged ≡ Ok value
 judged_ok {A} c (Ok found) value is = cc
@@ -79,7 +79,7 @@ pub step_ok : {A I : Type 0} (c : Config) (judge : I → Result A Fault) (read s
 step_ok c judge read stands answer value was told same = judged_ok c (judge stands) value (sym was ∙ told ∙ ap (λ i. as_told c (judge i)) same)
 
 pub step_told : {A I : Type 0} (c : Config) (before after : BlocksState) (judge : I → Result A Fault) (read stands : I) (answer : Result A StartFault) (fault : StartFault)
-    → answer ≡ Err fault → answer ≡ as_told c (judge read) → read ≡ stands → Tells c before after (judge stands) fault
+    → answer ≡ Err fault → answer ≡ as_told c (judge read) → read ≡ stands → HasFaultCause c before after (judge stands) fault
 step_told c before after judge read stands answer fault was told same = tells_judged c before after (judge stands) fault (sym was ∙ told ∙ ap (λ i. as_told c (judge i)) same)
 
 -- An answer that hands on a fault is the one that has it.

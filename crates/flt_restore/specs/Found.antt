@@ -15,10 +15,10 @@ use Rattle.flt_restore.specs.declared.reading.Held.{Held}
 use Rattle.flt_restore.specs.declared.reading.Held.TheVariants.{Missing, Invalid, Bytes}
 
 -- What a block holds, by what was read of it.
-abbrev pub content_of : Held → Content
-content_of Missing = missing
-content_of Invalid = invalid
-content_of (Bytes raw) = bytes raw.items
+abbrev pub held_content : Held → Content
+held_content Missing = missing
+held_content Invalid = invalid
+held_content (Bytes raw) = bytes raw.items
 
 -- The bytes that a read would find.
 abbrev pub size_found : Found → ℕ

@@ -25,11 +25,11 @@ as_told c (Ok value) = Ok value
 as_told c (Err fault) = Err (told_as c fault)
 
 -- A step's fault by its cause: three faults of the flash, or what was judged.
-abbrev pub Tells : {A : Type 0} → Config → BlocksState → BlocksState → Result A Fault → StartFault → Type 0
-Tells c before after judged Flash = HasRisenBy 3 before.device.faults after.device.faults
-Tells c before after judged (Damaged place) = judged ≡ Err (damaged place)
-Tells c before after judged (OtherConfig found wanted) = (judged ≡ Err (other found)) × (wanted ≡ mark_of c)
-Tells c before after judged SequenceSpent = ⊥
+abbrev pub HasFaultCause : {A : Type 0} → Config → BlocksState → BlocksState → Result A Fault → StartFault → Type 0
+HasFaultCause c before after judged Flash = HasRisenBy 3 before.device.faults after.device.faults
+HasFaultCause c before after judged (Damaged place) = judged ≡ Err (damaged place)
+HasFaultCause c before after judged (OtherConfig found wanted) = (judged ≡ Err (other found)) × (wanted ≡ mark_of c)
+HasFaultCause c before after judged SequenceSpent = ⊥
 
 -- The pages that a number's record takes beyond the configuration's own.
 abbrev pub beyond : Config → (ℕ → Content) → ℕ → ℕ

@@ -5,8 +5,8 @@ use Rattle.flt_store_model.specs.declared.place.Place.TheVariants.{Page}
 use Rattle.flt_restore.specs.declared.fault.StartFault.{StartFault}
 use Rattle.flt_restore.specs.declared.fault.StartFault.TheVariants.{Flash, Damaged, SequenceSpent}
 
-abbrev pub told_of : BlockFault → StartFault
-told_of FlashFault = Flash
-told_of (Full live needed) = Flash
-told_of Stuck = SequenceSpent
-told_of (DamagedPage sector page) = Damaged (Page sector page)
+abbrev pub start_fault_of : BlockFault → StartFault
+start_fault_of FlashFault = Flash
+start_fault_of (Full live needed) = Flash
+start_fault_of Stuck = SequenceSpent
+start_fault_of (DamagedPage sector page) = Damaged (Page sector page)

@@ -1,7 +1,7 @@
 //! Why a start-up does not succeed.
 
 ghost use Rattle.std.specs.Prelude.{◌≡◌};
-ghost use Rattle.flt_restore.specs.Told.{told_of};
+ghost use Rattle.flt_restore.specs.Told.{start_fault_of};
 
 use flt_flash::BlockFault;
 use flt_store_model::{Mark, Place};
@@ -25,7 +25,7 @@ pub enum StartFault {
 }
 
 impl From<BlockFault> for StartFault {
-    ghost from_gives = { λ fault told. told ≡ told_of fault };
+    ghost from_gives = { λ fault told. told ≡ start_fault_of fault };
 
     fn from(fault: BlockFault) -> Self {
         match fault {

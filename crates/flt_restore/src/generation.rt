@@ -4,11 +4,11 @@ ghost use Rattle.flt_nvm.specs.Driver.{driver_of, table_of};
 ghost use Rattle.flt_store_model.specs.Layout.{mark_number, parts};
 ghost use Rattle.flt_store_model.specs.Form.{IsCommit};
 ghost use Rattle.flt_store_model.specs.Holding.{held_by, named, parts_read, with_named};
-ghost use Rattle.flt_restore.specs.Found.{content_of, Reads};
+ghost use Rattle.flt_restore.specs.Found.{held_content, Reads};
 ghost use Rattle.flt_restore.specs.Needs.{IsNamedPart, IsReadable};
 ghost use Rattle.flt_restore.specs.declared.fault.StartFault.TheVariants.{Flash};
 ghost use Rattle.flt_restore.specs.Unread.{IsNamedUnread, IsPartUnread};
-ghost use Rattle.flt_restore.specs.Judging.{IsReadFrom, Tells};
+ghost use Rattle.flt_restore.specs.Judging.{IsReadFrom, HasFaultCause};
 ghost use Rattle.flt_restore.specs.Restored.{generation};
 
 use crate::commit::CommitCopy;
@@ -34,7 +34,7 @@ fn read_part<B: Blocks + Drop>(
     requires part { IsNamedPart config.now commit.now id }
     requires states { length out.old.events.items ≡ length config.now.events.items }
     ensures told { OnOk result (with_named config.now (driver_of nvm.old).value commit.now id out.old ≡ Ok out.new) }
-    ensures refused { IfErr result (Tells config.now (driver_of nvm.old) (driver_of nvm.new)
+    ensures refused { IfErr result (HasFaultCause config.now (driver_of nvm.old) (driver_of nvm.new)
         (with_named config.now (driver_of nvm.old).value commit.now id out.old)) }
     ensures states { length out.new.events.items ≡ length config.now.events.items }
     ensures unread { IsErrOf result Flash → IsPartUnread config.now commit.now (driver_of nvm.old) (driver_of nvm.new) }
@@ -67,7 +67,7 @@ fn read_parts<B: Blocks + Drop>(
     requires readable { IsReadable nvm.old }
     requires form { IsCommit config.now commit.now }
     ensures told { OnOk result (parts_read config.now (driver_of nvm.old).value commit.now parts ≡ Ok out.new) }
-    ensures refused { IfErr result (Tells config.now (driver_of nvm.old) (driver_of nvm.new)
+    ensures refused { IfErr result (HasFaultCause config.now (driver_of nvm.old) (driver_of nvm.new)
         (parts_read config.now (driver_of nvm.old).value commit.now parts)) }
     ensures unread { IsErrOf result Flash → IsPartUnread config.now commit.now (driver_of nvm.old) (driver_of nvm.new) }
     ensures reads { Reads (driver_of nvm.old) (driver_of nvm.new) }
@@ -89,10 +89,10 @@ fn read_generation<B: Blocks + Drop>(
     out: &mut Persist,
 ) -> Result<Option<CommitCopy>, StartFault>
     requires readable { IsReadable nvm.old }
-    ensures told { IfOk result (λ commit. named config.now (driver_of nvm.old).value (content_of held) ≡ Ok (generation commit out.new)) }
-    ensures source { IfOk result (λ commit. IsReadFrom config.now (content_of held) copy commit) }
-    ensures refused { IfErr result (Tells config.now (driver_of nvm.old) (driver_of nvm.new) (named config.now (driver_of nvm.old).value (content_of held))) }
-    ensures unread { IsErrOf result Flash → IsNamedUnread config.now (content_of held) (driver_of nvm.old) (driver_of nvm.new) }
+    ensures told { IfOk result (λ commit. named config.now (driver_of nvm.old).value (held_content held) ≡ Ok (generation commit out.new)) }
+    ensures source { IfOk result (λ commit. IsReadFrom config.now (held_content held) copy commit) }
+    ensures refused { IfErr result (HasFaultCause config.now (driver_of nvm.old) (driver_of nvm.new) (named config.now (driver_of nvm.old).value (held_content held))) }
+    ensures unread { IsErrOf result Flash → IsNamedUnread config.now (held_content held) (driver_of nvm.old) (driver_of nvm.new) }
     ensures reads { Reads (driver_of nvm.old) (driver_of nvm.new) }
     ensures table { table_of nvm.new ≡ table_of nvm.old }
 {
@@ -126,12 +126,12 @@ pub(crate) fn read_image<B: Blocks + Drop>(
 ) -> Result<Option<CommitCopy>, StartFault>
     requires readable { IsReadable nvm.old }
     requires not_stale { IsFalse (driver_of nvm.old).is_stale }
-    requires mark { content_of mark.now ≡ (driver_of nvm.old).value mark_number }
-    ensures told { IfOk result (λ commit. held_by config.now (driver_of nvm.old).value (content_of source.held) ≡ Ok (generation commit out.new)) }
-    ensures source { IfOk result (λ commit. IsReadFrom config.now (content_of source.held) source.copy commit) }
-    ensures refused { IfErr result (Tells config.now (driver_of nvm.old) (driver_of nvm.new)
-        (held_by config.now (driver_of nvm.old).value (content_of source.held))) }
-    ensures unread { IsErrOf result Flash → IsNamedUnread config.now (content_of source.held) (driver_of nvm.old) (driver_of nvm.new) }
+    requires mark { held_content mark.now ≡ (driver_of nvm.old).value mark_number }
+    ensures told { IfOk result (λ commit. held_by config.now (driver_of nvm.old).value (held_content source.held) ≡ Ok (generation commit out.new)) }
+    ensures source { IfOk result (λ commit. IsReadFrom config.now (held_content source.held) source.copy commit) }
+    ensures refused { IfErr result (HasFaultCause config.now (driver_of nvm.old) (driver_of nvm.new)
+        (held_by config.now (driver_of nvm.old).value (held_content source.held))) }
+    ensures unread { IsErrOf result Flash → IsNamedUnread config.now (held_content source.held) (driver_of nvm.old) (driver_of nvm.new) }
     ensures reads { Reads (driver_of nvm.old) (driver_of nvm.new) }
     ensures table { table_of nvm.new ≡ table_of nvm.old }
 {

@@ -3,7 +3,7 @@ ghost use Rattle.std.specs.Prelude.{◌≡◌, ◌≤◌, ◌<◌, ℕ, ◌↔�
 ghost use Rattle.flt_flash.specs.Calls.{found_of};
 ghost use Rattle.flt_flash.specs.Content.{Content};
 ghost use Rattle.flt_store_model.specs.Holding.{is_same_mark, marked, is_application};
-ghost use Rattle.flt_restore.specs.Found.{content_of};
+ghost use Rattle.flt_restore.specs.Found.{held_content};
 ghost use Rattle.flt_restore.specs.Judging.{as_told};
 ghost use Rattle.flt_store_model.specs.Form.{mark_of};
 ghost use Rattle.flt_restore.specs.Restored.{IsMarkDue};
@@ -31,7 +31,7 @@ fn is_same(first: &Mark, second: &Mark) -> bool
 /// The mark has to be the configuration's; it may be missing if the commit is.
 #[tactic(auto, unfolding(flt_store_model::specs::Holding::marked))]
 pub(crate) fn judge_mark(config: &ValidConfig, mark: &Held, commit: &Held) -> Result<(), StartFault>
-    ensures { result ≡ as_told config.now (marked config.now (content_of mark.now) (content_of commit.now)) }
+    ensures { result ≡ as_told config.now (marked config.now (held_content mark.now) (held_content commit.now)) }
 {
     match mark {
         Held::Bytes(bytes) => {
@@ -53,7 +53,7 @@ pub(crate) fn judge_mark(config: &ValidConfig, mark: &Held, commit: &Held) -> Re
 
 /// Whether the mark that was read has to be written.
 pub(crate) fn is_mark_due(config: &ValidConfig, mark: &Held) -> bool
-    ensures { IsTrue result ↔ IsMarkDue (mark_of config.now) (content_of mark.now) }
+    ensures { IsTrue result ↔ IsMarkDue (mark_of config.now) (held_content mark.now) }
 {
     match mark {
         Held::Missing => true,

@@ -4,7 +4,7 @@ ghost use Rattle.flt_nvm.specs.Driver.{driver_of, table_of};
 ghost use Rattle.flt_image.specs.Blocks.{bytes_at};
 ghost use Rattle.flt_store_model.specs.Layout.{first_part};
 ghost use Rattle.flt_store_model.specs.Form.{IsCommit};
-ghost use Rattle.flt_restore.specs.Found.{content_of, Reads};
+ghost use Rattle.flt_restore.specs.Found.{held_content, Reads};
 ghost use Rattle.flt_restore.specs.Needs.{IsNamedPart, IsReadable};
 ghost use Rattle.flt_restore.specs.Learning.{AreLearned, IsLearned, part_in};
 
@@ -17,7 +17,7 @@ use flt_store_model::{Commit, END_PART, FIRST_PART};
 
 /// The bytes that a block of a state may have; empty if it has none or too many.
 fn part_in(held: &Held) -> &[u8]
-    ensures bytes { result.now ≡ part_in (content_of held.now) }
+    ensures bytes { result.now ≡ part_in (held_content held.now) }
     ensures short { length result.now ≤ LONGEST }
 {
     match held {

@@ -4,7 +4,7 @@ ghost use Rattle.flt_flash.specs.Content.{Content};
 ghost use Rattle.flt_nvm.specs.Driver.{driver_of, table_of};
 ghost use Rattle.flt_nvm.specs.Leaves.{GotOf};
 ghost use Rattle.flt_store_model.specs.Layout.{commit_id, number_of};
-ghost use Rattle.flt_restore.specs.Found.{content_of, IsShortRead, IsSingle, Reads};
+ghost use Rattle.flt_restore.specs.Found.{held_content, IsShortRead, IsSingle, Reads};
 ghost use Rattle.flt_restore.specs.Judging.{IsSource};
 ghost use Rattle.flt_restore.specs.Needs.{IsReadable};
 ghost use Rattle.flt_restore.specs.Unread.{FailsAsFlash, FailsToRead, IsCommitUnread};
@@ -37,7 +37,7 @@ fn first_bytes(out: &[u8; 128], length: usize) -> BlockBytes
 /// What was read, whose bytes are at the start of `out`.
 fn held_in(got: Got, out: &[u8; 128]) -> Held
     requires { IsShortRead got }
-    ensures { (copy : ℕ) (content : Content) (before : List ℕ) → GotOf copy content got before out.now → content_of result ≡ content }
+    ensures { (copy : ℕ) (content : Content) (before : List ℕ) → GotOf copy content got before out.now → held_content result ≡ content }
 {
     match got {
         Got::Missing => Held::Missing,
@@ -54,7 +54,7 @@ pub(crate) fn read_content<B: Blocks + Drop>(
 ) -> Result<Held, BlockFault>
     requires readable { IsReadable nvm.old }
     requires single { IsSingle id index }
-    ensures content { IfOk result (λ held. content_of held ≡ (driver_of nvm.old).value (number_of id index)) }
+    ensures content { IfOk result (λ held. held_content held ≡ (driver_of nvm.old).value (number_of id index)) }
     ensures fails { IfErr result (FailsAsFlash (FailsToRead (number_of id index)) (driver_of nvm.old) (driver_of nvm.new)) }
     ensures not_stale { OnOk result (IsFalse (driver_of nvm.new).is_stale) }
     ensures reads { Reads (driver_of nvm.old) (driver_of nvm.new) }
@@ -77,7 +77,7 @@ fn read_source<B: Blocks + Drop>(nvm: &mut Nvm<B>, copy: u8) -> Result<CommitRea
     requires readable { IsReadable nvm.old }
     requires least { 1 ≤ copy }
     requires most { copy ≤ 2 }
-    ensures content { IfOk result (λ source. content_of source.held ≡ (driver_of nvm.old).value (number_of commit_id (copy - 1))) }
+    ensures content { IfOk result (λ source. held_content source.held ≡ (driver_of nvm.old).value (number_of commit_id (copy - 1))) }
     ensures copy { IfOk result (λ source. source.copy ≡ copy) }
     ensures fails { IfErr result (FailsAsFlash (FailsToRead (number_of commit_id (copy - 1))) (driver_of nvm.old) (driver_of nvm.new)) }
     ensures reads { Reads (driver_of nvm.old) (driver_of nvm.new) }
@@ -96,7 +96,7 @@ fn read_source<B: Blocks + Drop>(nvm: &mut Nvm<B>, copy: u8) -> Result<CommitRea
 pub(crate) fn read_commit<B: Blocks + Drop>(nvm: &mut Nvm<B>) -> Result<CommitRead, BlockFault>
     requires readable { IsReadable nvm.old }
     requires not_stale { IsFalse (driver_of nvm.old).is_stale }
-    ensures source { IfOk result (λ source. IsSource (driver_of nvm.old) (driver_of nvm.new) (content_of source.held) source.copy) }
+    ensures source { IfOk result (λ source. IsSource (driver_of nvm.old) (driver_of nvm.new) (held_content source.held) source.copy) }
     ensures fails { IfErr result (FailsAsFlash IsCommitUnread (driver_of nvm.old) (driver_of nvm.new)) }
     ensures reads { Reads (driver_of nvm.old) (driver_of nvm.new) }
     ensures table { table_of nvm.new ≡ table_of nvm.old }

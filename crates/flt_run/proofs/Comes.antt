@@ -14,9 +14,9 @@ use Rattle.flt_run.specs.declared.ending.Ending.{Ending}
 use Rattle.flt_run.specs.declared.ending.Ending.TheVariants.{Ran, Loaded}
 use Rattle.flt_run.specs.declared.made.Made.{Made}
 use Rattle.flt_run.specs.Scripted.{HasScript, ending_by}
-use Rattle.flt_run.specs.Ending.{AreLived, ComesTo, EndingHasCause, Inside, IsLivedBy, IsScriptOf, IsUntouched}
+use Rattle.flt_run.specs.Ending.{AreLived, ComesTo, EndingHasCause, RunInside, IsLivedBy, IsScriptOf, IsUntouched}
 
-module _ (dids : List DidUse) (inside : Inside) (command : Option Command) where
+module _ (dids : List DidUse) (inside : RunInside) (command : Option Command) where
   -- No life was made.
   pub untouched : (ending : Option Ending) → IfSome ending (EndingHasCause dids inside command None) → IsUntouched inside → ComesTo dids inside command ending
   untouched ending ends same = record { script = None; works = tt; ends = ends; begun = tt; sound = same }
@@ -40,7 +40,7 @@ module _ (dids : List DidUse) (inside : Inside) (command : Option Command) where
     lived made of is = record { script = Some script; works = (valid, of); ends = ends made is; begun = left.begun; sound = left.sound }
 
 -- The lives of the script of a command were made, if memory did not run out.
-module _ (dids : List DidUse) (inside : Inside) (script : ScriptContent) (valid : IsGiven script.config) (lives : Option (Vec Life Global))
+module _ (dids : List DidUse) (inside : RunInside) (script : ScriptContent) (valid : IsGiven script.config) (lives : Option (Vec Life Global))
     (left : LivesOn (inside.media script.config) script.config (device_of inside.device) (device_of inside.device_after) script.lives lives) where
   pub performed : (command : Command) → HasScript dids inside command script → (made : Option Made)
       → IfSome made (λ one. (lists one.script.items ≡ script.lives) × (lives ≡ Some one.lives)) → ComesTo dids inside (Some command) (option_map (ending_by command) made)

@@ -7,7 +7,7 @@ use Rattle.flt_script.specs.Script.{ScriptContent, script_of}
 use Rattle.flt_run.specs.declared.command.Command.{Command}
 use Rattle.flt_run.specs.declared.command.Command.TheVariants.{Run, Check, Load}
 use Rattle.flt_script.specs.Fetched.{read_of}
-use Rattle.flt_run.specs.Ending.{Inside, Outside, IsFaultless, IsLastFine, LivesHaveCause, StatusesHaveCauses, is_status_among}
+use Rattle.flt_run.specs.Ending.{RunInside, RunOutside, IsFaultless, IsLastFine, LivesHaveCause, StatusesHaveCauses, is_status_among}
 
 -- A number that is among some is the first of them, or among the others.
 first_or_later : (status one : ℕ) (rest : List ℕ) → IsTrue (is_status_among status (one ∷ rest)) → (one ≡ status) ⊎ IsTrue (is_status_among status rest)
@@ -20,13 +20,13 @@ told_script dids None good then_ = absurd good
 told_script dids (Some bytes) good then_ = then_ good
 
 -- The lives of a script ended with 0 where the last of them is fine.
-lives_fine : (inside : Inside) (status : ℕ) (script : Option ScriptContent) → LivesHaveCause inside script status
+lives_fine : (inside : RunInside) (status : ℕ) (script : Option ScriptContent) → LivesHaveCause inside script status
     → IfSome script (λ script. IsLastFine (inside.media script.config) script.config inside.device inside.device_after) → status ≡ 0
 lives_fine inside status None ends last = absurd ends
 lives_fine inside status (Some script) ends last =
     let fine = last ends.boot ends.earlier ends.is in ends.cause.completed fine.whole fine.holds.0 fine.holds.1 fine.left fine.few
 
-module _ (dids : List DidUse) (inside : Inside) (outside : Outside) (status : ℕ) (script : Option ScriptContent) where
+module _ (dids : List DidUse) (inside : RunInside) (outside : RunOutside) (status : ℕ) (script : Option ScriptContent) where
   module _ (command : Option Command) (causes : StatusesHaveCauses dids inside outside command script status) (fine : IsFaultless dids inside outside command script) where
     abbrev Good : Type 0
     Good = IsTrue (is_status_among status (0 ∷ 7 ∷ []))

@@ -18,7 +18,7 @@ use Rattle.flt_lives.specs.Alone.{IsAlone, AreAlone, IsPlain}
 use Rattle.flt_run.specs.declared.command.Command.{Command}
 use Rattle.flt_run.specs.declared.command.Command.TheVariants.{Run, Check, Load}
 use Rattle.flt_run.specs.Command.{plain_of}
-use Rattle.flt_run.specs.Ending.{Inside}
+use Rattle.flt_run.specs.Ending.{RunInside}
 use Rattle.flt_run.specs.Scripted.{HasScript}
 
 served_events : (dids : List DidUse) (numbers : List ℕ) → Serves dids (map load_event numbers)
@@ -73,7 +73,7 @@ never_in_lanes (Some (Load other true)) count is = absurd (cc (is))
 never_in_lanes (Some (Load other false)) count is = absurd (cc (is))
 
 -- So its script has no block of lanes.
-pub alone_plain : (dids : List DidUse) (inside : Inside) (command : Option Command) (c : Command) (script : ScriptContent) (lives : List (Vec Part Global)) →
+pub alone_plain : (dids : List DidUse) (inside : RunInside) (command : Option Command) (c : Command) (script : ScriptContent) (lives : List (Vec Part Global)) →
     plain_of command ≡ Some c → HasScript dids inside c script → lists lives ≡ script.lives → All (λ (life : Vec Part Global). AreAlone (parts_of life.items)) lives
 alone_plain dids inside command Run script lives is has same = absurd (never_run command is)
 alone_plain dids inside command Check script lives is has same = absurd has

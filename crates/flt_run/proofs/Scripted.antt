@@ -12,10 +12,10 @@ use Rattle.flt_run.specs.declared.command.Command.TheVariants.{Run, Check, Load}
 use Rattle.flt_run.specs.declared.ending.Ending.TheVariants.{Refused, Unreadable, Accepted}
 use Rattle.flt_run.specs.declared.ending.Ending.{Ending}
 use Rattle.flt_run.specs.declared.ending.Ending.TheVariants as endings
-use Rattle.flt_run.specs.Ending.{EndingHasCause, Inside, TellsAccepted, IsUntouched}
+use Rattle.flt_run.specs.Ending.{EndingHasCause, RunInside, TellsAccepted, IsUntouched}
 use Rattle.flt_run.specs.Scripted.{HasScript, IsScriptFor}
 
-module _ (dids : List DidUse) (inside : Inside) where
+module _ (dids : List DidUse) (inside : RunInside) where
   -- It is the script of a command, or why there is none.
   abbrev pub For : Command → Fetched → Type 0
   For = IsScriptFor dids inside.left inside.left_after inside.read_faults inside.read_faults_after

@@ -28,7 +28,7 @@ use Rattle.flt_run.specs.declared.command.Command.{Command}
 use Rattle.flt_run.specs.declared.ending.Ending.{Ending}
 use Rattle.flt_run.specs.declared.ending.Ending.TheVariants.{Usage, Unreadable, Refused, Accepted, Ran, Loaded}
 use Rattle.flt_run.specs.declared.made.Made.{Made}
-use Rattle.flt_run.specs.Ending.{Inside, Outside, IsLeftSound, IsLivedBy, IsSoundFor, IsSoundThroughout, IsTold, EndingHasCause, KeepsAcknowledged, LosesNothing, StaysSoundThroughout, WantsMemory, WorksOnNone, lives_of, status_of}
+use Rattle.flt_run.specs.Ending.{RunInside, RunOutside, IsLeftSound, IsLivedBy, IsSoundFor, IsSoundThroughout, IsRunTold, EndingHasCause, KeepsAcknowledged, LosesNothing, StaysSoundThroughout, RunWantsMemory, WorksOnNone, lives_of, ending_status}
 use Rattle.flt_run.proofs.Lived.{all_of_seen, some_lives, turned}
 
 -- The first boot of a run stands first of its boots.
@@ -55,7 +55,7 @@ undamaged_last (life ∷ earlier) all = undamaged_status life.boot (All-head (λ
 abbrev pub CameTo : ℕ → ℕ → Type 0
 CameTo due status = (status ≡ due) ⊎ (status ≡ 4)
 
-pub came_to : (outside : Outside) (ending : Ending) (status : ℕ) → IsTold outside ending status → CameTo (status_of ending) status
+pub came_to : (outside : RunOutside) (ending : Ending) (status : ℕ) → IsRunTold outside ending status → CameTo (ending_status ending) status
 came_to outside ending status (inl told) = inl told.0
 came_to outside ending status (inr failed) = inr failed.0
 
@@ -98,7 +98,7 @@ made_throughout media script before after made status lived came =
     (subst (λ lives. CameTo (status_of_lives (lives_seen lives made.lives.items)) status) lived.script_is came)
 
 -- Nothing that was acknowledged is lost, by the law of the chain.
-kept_lives : (inside : Inside) (script : ScriptContent) (made : Made) → IsLivedBy inside.media script inside.device inside.device_after made
+kept_lives : (inside : RunInside) (script : ScriptContent) (made : Made) → IsLivedBy inside.media script inside.device inside.device_after made
     → KeepsAcknowledged (inside.media script.config) script.config inside.device inside.device_after (lives_seen script.lives made.lives.items)
 kept_lives inside script made lived =
     let linked = lived.lived.linked in
@@ -106,20 +106,20 @@ kept_lives inside script made lived =
     (length inside.device.bench.boots) (boot_in (device_of inside.device_after)) linked.boots (lives_seen script.lives made.lives.items) linked.linked in
     record { boots = linked.boots; are = linked.is; end = λ sound. (law sound).0; found = λ sound. (law sound).1; begun = λ sound. (law sound).2 }
 
-kept_by : (inside : Inside) (made : Made) (status : ℕ) (lives : List Life) (script : Option ScriptContent) → IsSomeAnd script (λ script. IsLivedBy inside.media script inside.device inside.device_after made)
+kept_by : (inside : RunInside) (made : Made) (status : ℕ) (lives : List Life) (script : Option ScriptContent) → IsSomeAnd script (λ script. IsLivedBy inside.media script inside.device inside.device_after made)
     → lives ≡ made.lives.items → LosesNothing inside script status lives
 kept_by inside made status lives None lived is = absurd lived
 kept_by inside made status lives (Some script) lived is =
     inr (subst (λ lives. KeepsAcknowledged (inside.media script.config) script.config inside.device inside.device_after (lives_seen script.lives lives)) (sym is) (kept_lives inside script made lived))
 
-kept_none : (inside : Inside) (status : ℕ) (lives : List Life) (script : Option ScriptContent) → WorksOnNone inside script → LosesNothing inside script status lives
+kept_none : (inside : RunInside) (status : ℕ) (lives : List Life) (script : Option ScriptContent) → WorksOnNone inside script → LosesNothing inside script status lives
 kept_none inside status lives script works = subst (λ s. LosesNothing inside s status lives) (sym works.0) tt
 
-pub kept_memory : (inside : Inside) (status : ℕ) (lives : List Life) (script : Option ScriptContent) → WantsMemory status lives → LosesNothing inside script status lives
+pub kept_memory : (inside : RunInside) (status : ℕ) (lives : List Life) (script : Option ScriptContent) → RunWantsMemory status lives → LosesNothing inside script status lives
 kept_memory inside status lives None wants = tt
 kept_memory inside status lives (Some script) wants = inl wants
 
-pub kept_ending : (dids : List DidUse) (inside : Inside) (command : Option Command) (script : Option ScriptContent) (status : ℕ) (lives : List Life) (ending : Ending) → EndingHasCause dids inside command script ending
+pub kept_ending : (dids : List DidUse) (inside : RunInside) (command : Option Command) (script : Option ScriptContent) (status : ℕ) (lives : List Life) (ending : Ending) → EndingHasCause dids inside command script ending
     → lives ≡ lives_of ending → LosesNothing inside script status lives
 kept_ending dids inside command script status lives Usage cause is = kept_none inside status lives script cause.2
 kept_ending dids inside command script status lives Unreadable cause is = kept_none inside status lives script cause.2
@@ -129,24 +129,24 @@ kept_ending dids inside command script status lives (Ran made) cause is = kept_b
 kept_ending dids inside command script status lives (Loaded made) cause is = kept_by inside made status lives script cause.4 is
 
 -- Lives of a script were made.
-lived_throughout : (inside : Inside) (made : Made) (status : ℕ) (lives : List Life) (script : Option ScriptContent) → IsSomeAnd script (λ script. IsLivedBy inside.media script inside.device inside.device_after made)
+lived_throughout : (inside : RunInside) (made : Made) (status : ℕ) (lives : List Life) (script : Option ScriptContent) → IsSomeAnd script (λ script. IsLivedBy inside.media script inside.device inside.device_after made)
     → CameTo (status_of_lives (lives_seen (lists made.script.items) made.lives.items)) status → lives ≡ made.lives.items → StaysSoundThroughout inside script status lives
 lived_throughout inside made status lives None lived came is = absurd lived
 lived_throughout inside made status lives (Some script) lived came is =
     inr (subst (IsSoundThroughout (inside.media script.config) script.config inside.device inside.device_after status) (sym is) (made_throughout inside.media script inside.device inside.device_after made status lived came))
 
 -- Memory ran out.
-pub of_memory : (inside : Inside) (status : ℕ) (lives : List Life) (script : Option ScriptContent) → WantsMemory status lives → IsLeftSound inside script → StaysSoundThroughout inside script status lives
+pub of_memory : (inside : RunInside) (status : ℕ) (lives : List Life) (script : Option ScriptContent) → RunWantsMemory status lives → IsLeftSound inside script → StaysSoundThroughout inside script status lives
 of_memory inside status lives None wants sound =
     let told = wants.told in record { untouched = sound; none = wants.made; not_six = λ six. omega (arith, told, six) }
 of_memory inside status lives (Some script) wants sound = inl wants
 
-module _ (dids : List DidUse) (inside : Inside) (command : Option Command) (script : Option ScriptContent) where
+module _ (dids : List DidUse) (inside : RunInside) (command : Option Command) (script : Option ScriptContent) where
   no_life : (due status : ℕ) (lives : List Life) → due ≢ 6 → CameTo due status → WorksOnNone inside script → lives ≡ [] → StaysSoundThroughout inside script status lives
   no_life due status lives other came works none =
       subst (λ s. StaysSoundThroughout inside s status lives) (sym works.0) (record { untouched = works.1; none = none; not_six = other_than_six due status other came })
 
-  pub throughout : (status : ℕ) (lives : List Life) (ending : Ending) → EndingHasCause dids inside command script ending → CameTo (status_of ending) status → lives ≡ lives_of ending
+  pub throughout : (status : ℕ) (lives : List Life) (ending : Ending) → EndingHasCause dids inside command script ending → CameTo (ending_status ending) status → lives ≡ lives_of ending
       → StaysSoundThroughout inside script status lives
   throughout status lives Usage cause came none = no_life 1 status lives (λ e. omega (arith, e)) came cause.2 none
   throughout status lives Unreadable cause came none = no_life 3 status lives (λ e. omega (arith, e)) came cause.2 none

@@ -4,11 +4,11 @@ use Rattle.flt_run.specs.declared.command.Command.{Command}
 use Rattle.flt_run.specs.declared.command.Command.TheVariants.{Run, Check, Load}
 
 -- The reports of a load are so many.
-abbrev pub IsInRange : Option Command → Type 0
-IsInRange None = Unit {0}
-IsInRange (Some Run) = Unit {0}
-IsInRange (Some Check) = Unit {0}
-IsInRange (Some (Load count lanes)) = (1 ≤ count) × (count ≤ 60000)
+abbrev pub IsLoadInRange : Option Command → Type 0
+IsLoadInRange None = Unit {0}
+IsLoadInRange (Some Run) = Unit {0}
+IsLoadInRange (Some Check) = Unit {0}
+IsLoadInRange (Some (Load count lanes)) = (1 ≤ count) × (count ≤ 60000)
 
 -- The command, where it is carried out without a lock.
 abbrev pub plain_of : Option Command → Option Command

@@ -13,13 +13,13 @@ use Rattle.flt_run.specs.declared.command.Command.TheVariants.{Run, Check, Load}
 use Rattle.flt_run.specs.declared.ending.Ending.{Ending}
 use Rattle.flt_run.specs.declared.ending.Ending.TheVariants.{Ran, Loaded}
 use Rattle.flt_run.specs.declared.made.Made.{Made}
-use Rattle.flt_run.specs.Ending.{Inside, IsUnread}
+use Rattle.flt_run.specs.Ending.{RunInside, IsRunUnread}
 
 -- A command has this script: that of the bytes, which were read to their end, or that of a load, for which nothing was read.
-abbrev pub HasScript : List DidUse → Inside → Command → ScriptContent → Type 0
+abbrev pub HasScript : List DidUse → RunInside → Command → ScriptContent → Type 0
 HasScript dids inside Run script = IsAtEnd inside.left_after × AreScript dids inside.left script
 HasScript dids inside Check script = ⊥
-HasScript dids inside (Load count lanes) script = IsUnread inside × (script ≡ load_script count lanes)
+HasScript dids inside (Load count lanes) script = IsRunUnread inside × (script ≡ load_script count lanes)
 
 -- The script of a load, which the table serves, unless memory ran out.
 abbrev pub IsLoaded : List DidUse → ℕ → Bool → Fetched → Type 0

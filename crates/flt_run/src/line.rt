@@ -4,7 +4,7 @@ ghost use Rattle.flt_config.specs.Validity.{needed_pages};
 ghost use Rattle.flt_life_model.specs.Lives.{lists};
 ghost use Rattle.flt_script.specs.Script.{content};
 ghost use Rattle.flt_step.specs.Part.{part_of, parts_of};
-ghost use Rattle.flt_step.specs.Step.{steps_of, steps_of_part};
+ghost use Rattle.flt_step.specs.Step.{steps_of_parts, steps_of_part};
 ghost use Rattle.flt_run.specs.Report.{accepted_text, step_count};
 
 use flt_config::needed_pages;
@@ -83,8 +83,8 @@ fn step_count(lives: &[Vec<Part>]) -> usize
 
 /// How many steps parts have.
 fn steps_of(parts: &[Part]) -> usize
-    requires { steps_of (parts_of parts.now) ≤ 65536 }
-    ensures { result ≡ steps_of (parts_of parts.now) }
+    requires { steps_of_parts (parts_of parts.now) ≤ 65536 }
+    ensures { result ≡ steps_of_parts (parts_of parts.now) }
 {
     let mut count = 0;
     for part in parts {

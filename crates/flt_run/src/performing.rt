@@ -13,7 +13,7 @@ ghost use Rattle.flt_life_model.specs.declared.life.Boot.TheVariants.{Refused};
 ghost use Rattle.flt_life_model.specs.Lives.{lists};
 ghost use Rattle.flt_lives.specs.Alone.{AreAlone};
 ghost use Rattle.flt_lives.specs.Devices.{LivesOn, ServesAll};
-ghost use Rattle.flt_run.specs.Command.{IsInRange, plain_of};
+ghost use Rattle.flt_run.specs.Command.{IsLoadInRange, plain_of};
 ghost use Rattle.flt_run.specs.Ending.{ComesTo, TellsAccepted};
 ghost use Rattle.flt_run.specs.Scripted.{IsLoaded, IsScriptFor, ending_by};
 ghost use Rattle.flt_run.specs.Seen.{inside_of};
@@ -124,7 +124,7 @@ fn script_for<S: Source>(
     source: &mut S,
     dids: &DidTable<DID_ROWS>,
 ) -> Fetched
-    requires { IsInRange (Some command) }
+    requires { IsLoadInRange (Some command) }
     ensures { IsScriptFor (dids_of dids.now) (S.left source.old) (S.left source.new) (S.faults source.old) (S.faults source.new) command result }
 {
     match command {
@@ -181,7 +181,7 @@ pub(crate) fn perform_plain<S: Source, D: Driver>(
     device: D::Device,
     dids: DidTable<DID_ROWS>,
 ) -> (Option<Ending>, D::Device)
-    requires range { IsInRange command }
+    requires range { IsLoadInRange command }
     requires serves { ServesAll D.serves (D.device_state device) }
     requires boots { 256 ≤ (D.device_state device).bench.boots_left }
     requires unarmed { (D.device_state device).bench.armed ≡ 0 }
@@ -218,7 +218,7 @@ pub(crate) fn perform<R: Threads + Wait + Sync, G: SharedGate, S: Source, D: Dri
     device: D::Device,
     dids: DidTable<DID_ROWS>,
 ) -> (Option<Ending>, D::Device)
-    requires range { IsInRange command }
+    requires range { IsLoadInRange command }
     requires serves { ServesAll D.serves (D.device_state device) }
     requires boots { 256 ≤ (D.device_state device).bench.boots_left }
     requires unarmed { (D.device_state device).bench.armed ≡ 0 }

@@ -12,8 +12,8 @@ use Rattle.flt_script.specs.Behind.{lane_count, has_lane, has_earlier_store, in_
 use Rattle.flt_script.specs.Gives.{given_by}
 use Rattle.flt_step.specs.Part.{PartOf}
 use Rattle.flt_script.specs.Refusal.{is_step_misplaced}
-use Rattle.flt_step.specs.Step.{is_step_in, is_lane_step, is_store_step, store_lanes, is_lane_in, is_part_in, are_parts_in, steps_of_part, steps_of, lanes_of_part, arm_count, arms_of_part, arms_of, drain_count, drains_of_lane, drains_of_part, drains_of}
-use Rattle.flt_script.specs.Within.{marks_of}
+use Rattle.flt_step.specs.Step.{is_step_in, is_lane_step, is_store_step, store_lanes, is_lane_in, is_part_in, are_parts_in, steps_of_part, steps_of_parts, lanes_of_part, arms_of_step, arms_of_part, arms_of_parts, drain_count, drains_of_lane, drains_of_part, drains_of_parts}
+use Rattle.flt_script.specs.Within.{lines_at_least}
 use Rattle.flt_script.proofs.Stores.{few_with, few_with_lane}
 
 pub same_some : {X Y : Type 0} (f : X → Y) (o : Option X) → is_some (option_map f o) ≡ is_some o
@@ -96,23 +96,23 @@ in_last size own pushed s lane (next ∷ lanes) =
     omega (arith, more, sum_by-cons size lane (in_last_lane (Some s) (next ∷ lanes)), sum_by-cons size lane (next ∷ lanes))
 
 pub steps_with : (block : Option (List (List Step))) (s : Step) (parts : List (PartOf Step)) → is_step_misplaced block s ≡ false
-    → steps_of (with_step block (Some s) parts) + block_steps (option_map (in_last_lane (Some s)) block) ≡ steps_of parts + block_steps block + 1
+    → steps_of_parts (with_step block (Some s) parts) + block_steps (option_map (in_last_lane (Some s)) block) ≡ steps_of_parts parts + block_steps block + 1
 steps_with None s parts place = omega (arith, sum_by_push steps_of_part parts (inl s))
 steps_with (Some []) s parts place = absurd cc
 steps_with (Some (lane ∷ lanes)) s parts place = omega (arith, in_last length (λ step. 1) (λ one step. length-append one (step ∷ [])) s lane lanes)
 
-pub arms_with_step : (block : Option (List (List Step))) (s : Step) (parts : List (PartOf Step)) → arms_of (with_step block (Some s) parts) ≤ arms_of parts + arm_count s
+pub arms_with_step : (block : Option (List (List Step))) (s : Step) (parts : List (PartOf Step)) → arms_of_parts (with_step block (Some s) parts) ≤ arms_of_parts parts + arms_of_step s
 arms_with_step None s parts = omega (arith, sum_by_push arms_of_part parts (inl s))
 arms_with_step (Some lanes) s parts = omega arith
 
 pub drains_with_step : (block : Option (List (List Step))) (s : Step) (parts : List (PartOf Step)) → is_step_misplaced block s ≡ false
-    → drains_of (with_step block (Some s) parts) + block_drains (option_map (in_last_lane (Some s)) block) ≡ drains_of parts + block_drains block + drain_count s
+    → drains_of_parts (with_step block (Some s) parts) + block_drains (option_map (in_last_lane (Some s)) block) ≡ drains_of_parts parts + block_drains block + drain_count s
 drains_with_step None s parts place = omega (arith, sum_by_push drains_of_part parts (inl s))
 drains_with_step (Some []) s parts place = absurd cc
 drains_with_step (Some (lane ∷ lanes)) s parts place = omega (arith, in_last drains_of_lane drain_count (sum_by_push drain_count) s lane lanes)
 
 pub marks_with : (block : Option (List (List Step))) (s : Step) (parts : List (PartOf Step))
-    → marks_of (with_step block (Some s) parts) + block_marks (option_map (in_last_lane (Some s)) block) ≤ marks_of parts + block_marks block + 1
+    → lines_at_least (with_step block (Some s) parts) + block_marks (option_map (in_last_lane (Some s)) block) ≤ lines_at_least parts + block_marks block + 1
 marks_with None s parts = omega (arith, sum_by_push lanes_of_part parts (inl s), length-append parts (inl s ∷ []))
 marks_with (Some lanes) s parts = omega (arith, length-in_last_lane (Some s) lanes)
 
@@ -152,18 +152,18 @@ pub marks_with_lane : (block : Option (List (List Step))) → block_marks (optio
 marks_with_lane None = omega arith
 marks_with_lane (Some lanes) = omega (arith, length-append lanes ([] ∷ []))
 
-pub steps_with_block : (block : Option (List (List Step))) (parts : List (PartOf Step)) → steps_of (parts ++ option_to_list (option_map inr block)) ≡ steps_of parts + block_steps block
+pub steps_with_block : (block : Option (List (List Step))) (parts : List (PartOf Step)) → steps_of_parts (parts ++ option_to_list (option_map inr block)) ≡ steps_of_parts parts + block_steps block
 steps_with_block None parts = rw append-nil (omega arith)
 steps_with_block (Some lanes) parts = omega (arith, sum_by_push steps_of_part parts (inr lanes))
 
-pub arms_with_block : (block : Option (List (List Step))) (parts : List (PartOf Step)) → arms_of (parts ++ option_to_list (option_map inr block)) ≡ arms_of parts
+pub arms_with_block : (block : Option (List (List Step))) (parts : List (PartOf Step)) → arms_of_parts (parts ++ option_to_list (option_map inr block)) ≡ arms_of_parts parts
 arms_with_block None parts = rw append-nil refl
 arms_with_block (Some lanes) parts = omega (arith, sum_by_push arms_of_part parts (inr lanes))
 
-pub drains_with_block : (block : Option (List (List Step))) (parts : List (PartOf Step)) → drains_of (parts ++ option_to_list (option_map inr block)) ≡ drains_of parts + block_drains block
+pub drains_with_block : (block : Option (List (List Step))) (parts : List (PartOf Step)) → drains_of_parts (parts ++ option_to_list (option_map inr block)) ≡ drains_of_parts parts + block_drains block
 drains_with_block None parts = rw append-nil (omega arith)
 drains_with_block (Some lanes) parts = omega (arith, sum_by_push drains_of_part parts (inr lanes))
 
-pub marks_with_block : (block : Option (List (List Step))) (parts : List (PartOf Step)) → marks_of (parts ++ option_to_list (option_map inr block)) ≤ marks_of parts + block_marks block
+pub marks_with_block : (block : Option (List (List Step))) (parts : List (PartOf Step)) → lines_at_least (parts ++ option_to_list (option_map inr block)) ≤ lines_at_least parts + block_marks block
 marks_with_block None parts = rw append-nil (omega arith)
 marks_with_block (Some lanes) parts = omega (arith, sum_by_push lanes_of_part parts (inr lanes), length-append parts (inr lanes ∷ []))

@@ -15,7 +15,7 @@ use Rattle.flt_script.specs.Said as line
 use Rattle.flt_script.specs.declared.line.StepLine.{StepLine}
 use Rattle.flt_script.specs.declared.line.StepLine.TheVariants.{Report, Show, Cycle, Tick, Signal, Enable, Request, Save, Post, Drain, Get, Ask, Arming}
 use Rattle.flt_step.specs.declared.step.Step.{Step}
-use Rattle.flt_script.specs.Behind.{Behind, added, behind, event_count, has_begun, lane_count, has_lane, in_last_lane, with_step, step_of, arms_with, drains_with}
+use Rattle.flt_script.specs.Behind.{Behind, added_line, behind, event_count, has_begun, lane_count, has_lane, in_last_lane, with_step, step_of, arms_with, drains_with}
 use Rattle.flt_script.specs.Causes.{arms_written, drains_written}
 use Rattle.flt_script.specs.Counts.{is_step, is_arming, is_drain, is_power, is_event, IsCounted}
 use Rattle.flt_script.specs.Event.{event_held}
@@ -148,7 +148,7 @@ drains_counted b s past read e =
 
 module _ (dids : List DidUse) where
   more : (l : Line) (past : List Line) → refusal dids (behind dids past) l ≡ None → IsCounted dids past → IsCounted dids (l ∷ past)
-  unfolding added refusal
+  unfolding added_line refusal
   more line.Skipped past e c = record {
     steps = count_no is_step line.Skipped past _ refl c.steps;
     arms = count_no is_arming line.Skipped past _ refl c.arms;

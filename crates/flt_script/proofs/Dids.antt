@@ -6,7 +6,7 @@ use Rattle.flt_config.specs.declared.config.DidUse.{DidUse}
 use Rattle.flt_did.specs.Rows.{is_did}
 use Rattle.flt_script.specs.declared.fault.LineCause.TheVariants.{Order, Many}
 use Rattle.flt_script.specs.Said as line
-use Rattle.flt_script.specs.Behind.{Behind, added, event_count, has_begun, uses_of, with_use_at}
+use Rattle.flt_script.specs.Behind.{Behind, added_line, event_count, has_begun, uses_of, with_use_at}
 use Rattle.flt_script.specs.Next.{with_line}
 use Rattle.flt_script.specs.Refusal.{refusal, did_refusal}
 
@@ -38,24 +38,24 @@ pub accepted : (dids : List DidUse) (b : Behind) (event id : ℕ) (did : DidUse)
     → length (uses_of event b.config.events.items) < 8 → find (is_did id) dids ≡ Some did
     → with_line dids 0 b (line.Did event id)
     ≡ Ok (record b { config = record b.config { events = record { items = with_use_at event (Some did) b.config.events.items } } })
-unfolding with_line added refusal did_refusal
+unfolding with_line added_line refusal did_refusal
 accepted dids b event id did begun there room found =
     rw (begun, lt-leb (event_count b) event there, lt-leb 8 (length (uses_of event b.config.events.items)) room, found) refl
 
 -- Such a line behind a step.
 pub begun_before : (dids : List DidUse) (b : Behind) (event id : ℕ) → has_begun b ≡ true → with_line dids 0 b (line.Did event id) ≡ Err Order
-unfolding with_line added refusal did_refusal
+unfolding with_line added_line refusal did_refusal
 begun_before dids b event id begun = rw begun refl
 
 -- Such a line of an event that is not there.
 pub absent_event : (dids : List DidUse) (b : Behind) (event id : ℕ) → has_begun b ≡ false → event_count b ≤ event
     → with_line dids 0 b (line.Did event id) ≡ Err Order
-unfolding with_line added refusal did_refusal
+unfolding with_line added_line refusal did_refusal
 absent_event dids b event id begun absent = rw (begun, le-leb (event_count b) event absent) refl
 
 -- Such a line of an event that has eight of them.
 pub too_many : (dids : List DidUse) (b : Behind) (event id : ℕ) → has_begun b ≡ false → event < event_count b
     → 8 ≤ length (uses_of event b.config.events.items) → with_line dids 0 b (line.Did event id) ≡ Err Many
-unfolding with_line added refusal did_refusal
+unfolding with_line added_line refusal did_refusal
 too_many dids b event id begun there full =
     rw (begun, lt-leb (event_count b) event there, le-leb 8 (length (uses_of event b.config.events.items)) full) refl

@@ -28,7 +28,7 @@ use Rattle.flt_script.specs.Gives.{◌⇒◌, ◌>>=◌, given_by}
 use Rattle.flt_script.specs.Laws.{FirstCauseIsTold}
 use Rattle.flt_script.specs.Line.{spelling, keywords, keyword_of, line_with, is_comment, by_words, line_of}
 use Rattle.flt_script.specs.Refusal.{setting_refusal, flash_refusal, event_refusal, did_refusal, is_step_misplaced, step_refusal, power_refusal, par_refusal, lane_refusal, end_refusal, refusal, unless_refused, line_behind}
-use Rattle.flt_step.specs.Step.{arm_count, drain_count, is_lane_step, is_store_step}
+use Rattle.flt_step.specs.Step.{arms_of_step, drain_count, is_lane_step, is_store_step}
 use Rattle.flt_script.specs.Text.{words_of, is_plain, all_plain}
 use Rattle.flt_script.proofs.Kept.{kept}
 use Rattle.flt_script.proofs.StepRead.{IsRead, is_read}
@@ -147,7 +147,7 @@ misplaced (Some (lane ∷ lanes)) s = refl
 abbrev of_step : Behind → Option Step → Option LineCause
 of_step b read =
     cond (is_none read) (Some Range)
-    (cond (leb 65536 b.steps || ltb 64 (b.arms + given_by read 0 arm_count) || ltb 1024 (b.drains + given_by read 0 drain_count)) (Some Many)
+    (cond (leb 65536 b.steps || ltb 64 (b.arms + given_by read 0 arms_of_step) || ltb 1024 (b.drains + given_by read 0 drain_count)) (Some Many)
     (cond (given_by read false (is_step_misplaced b.block)) (Some Block) None))
 
 abbrev of_written : Behind → StepLine → Option LineCause

@@ -9,8 +9,8 @@ use Rattle.flt_step.specs.declared.step.Step.{Step}
 use Rattle.flt_step.specs.Part.{PartOf, part_of, parts_of}
 use Rattle.flt_script.specs.Behind.{has_earlier_store, in_last_lane}
 use Rattle.flt_script.specs.Next.{with_lane_step}
-use Rattle.flt_step.specs.Step.{is_lane_step, is_store_step, lanes_of}
-use Rattle.flt_script.specs.Within.{marks_of}
+use Rattle.flt_step.specs.Step.{is_lane_step, is_store_step, lanes_of_parts}
+use Rattle.flt_script.specs.Within.{lines_at_least}
 
 -- A life where it lies in memory.
 abbrev pub Life : Type 0
@@ -28,7 +28,7 @@ sum_of_lives count (life ∷ lives) =
     omega (arith, rest, sum_by-cons (λ (l : Life). count (parts_of l.items)) life lives, sum_by-cons count (parts_of life.items) (lives_of lives))
 
 -- As many marks has a life in memory.
-pub sum_of_marks : (lives : List Life) → sum_by (λ life. length life.items + lanes_of (parts_of life.items)) lives ≡ sum_by marks_of (lives_of lives)
+pub sum_of_marks : (lives : List Life) → sum_by (λ life. length life.items + lanes_of_parts (parts_of life.items)) lives ≡ sum_by lines_at_least (lives_of lives)
 sum_of_marks [] = refl
 sum_of_marks (life ∷ lives) =
     let rest = sum_of_marks lives in
@@ -36,8 +36,8 @@ sum_of_marks (life ∷ lives) =
       arith,
       rest,
       length-map life.items part_of,
-      sum_by-cons (λ (l : Life). length l.items + lanes_of (parts_of l.items)) life lives,
-      sum_by-cons marks_of (parts_of life.items) (lives_of lives),
+      sum_by-cons (λ (l : Life). length l.items + lanes_of_parts (parts_of l.items)) life lives,
+      sum_by-cons lines_at_least (parts_of life.items) (lives_of lives),
     )
 
 -- ---- the lanes of a block

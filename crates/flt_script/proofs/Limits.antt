@@ -13,12 +13,12 @@ use Rattle.flt_script.specs.Said.{Line}
 use Rattle.flt_script.specs.Said as line
 use Rattle.flt_script.specs.declared.places.Places.{Places}
 use Rattle.flt_step.specs.declared.step.Step.{Step}
-use Rattle.flt_script.specs.Behind.{Behind, added, behind, has_begun, has_lane, lane_count, in_last_lane, with_step, step_of}
+use Rattle.flt_script.specs.Behind.{Behind, added_line, behind, has_begun, has_lane, lane_count, in_last_lane, with_step, step_of}
 use Rattle.flt_script.specs.Gives.{given_by}
 use Rattle.flt_script.specs.Refusal.{is_step_misplaced, setting_refusal, flash_refusal, event_refusal, did_refusal, step_refusal, power_refusal, par_refusal, lane_refusal, end_refusal, refusal}
 use Rattle.flt_script.specs.Script.{lines_behind}
-use Rattle.flt_step.specs.Step.{is_step_in, are_parts_in, steps_of, arm_count, arms_of, drain_count, drains_of}
-use Rattle.flt_script.specs.Within.{marks_of, IsWithinLimits}
+use Rattle.flt_step.specs.Step.{is_step_in, are_parts_in, steps_of_parts, arms_of_step, arms_of_parts, drain_count, drains_of_parts}
+use Rattle.flt_script.specs.Within.{lines_at_least, IsWithinLimits}
 use Rattle.flt_script.proofs.Accepted.{of_accepted_lines}
 use Rattle.flt_script.proofs.Blocks.{is_block_in, block_steps, block_drains, block_marks, block_with, parts_with, steps_with, arms_with_step, drains_with_step, marks_with, block_with_lane, parts_with_block, steps_with_lane, drains_with_lane, marks_with_lane, steps_with_block, arms_with_block, drains_with_block, marks_with_block}
 use Rattle.flt_script.proofs.StepRead.{is_read, in_range}
@@ -28,13 +28,13 @@ pub record IsKept (b : Behind) (count : ℕ) : Type 0 where
   pub lives : list_all (are_parts_in b.config) b.lives ≡ true
   pub parts : are_parts_in b.config b.parts ≡ true
   pub block : is_block_in b.config b.block ≡ true
-  pub steps : sum_by steps_of b.lives + steps_of b.parts + block_steps b.block ≤ b.steps
+  pub steps : sum_by steps_of_parts b.lives + steps_of_parts b.parts + block_steps b.block ≤ b.steps
   pub few : b.steps ≤ 65536
-  pub arms : sum_by arms_of b.lives + arms_of b.parts ≤ b.arms
+  pub arms : sum_by arms_of_parts b.lives + arms_of_parts b.parts ≤ b.arms
   pub few_arms : b.arms ≤ 64
-  pub drains : sum_by drains_of b.lives + drains_of b.parts + block_drains b.block ≤ b.drains
+  pub drains : sum_by drains_of_parts b.lives + drains_of_parts b.parts + block_drains b.block ≤ b.drains
   pub few_drains : b.drains ≤ 1024
-  pub marks : sum_by marks_of b.lives + marks_of b.parts + block_marks b.block ≤ count
+  pub marks : sum_by lines_at_least b.lives + lines_at_least b.parts + block_marks b.block ≤ count
   pub few_lives : length b.lives < 256
 
 -- ---- a line that configures
@@ -99,23 +99,23 @@ stepped b read = record b {
   parts = with_step b.block read b.parts;
   block = option_map (in_last_lane read) b.block;
   steps = b.steps + 1;
-  arms = b.arms + given_by read 0 arm_count;
+  arms = b.arms + given_by read 0 arms_of_step;
   drains = b.drains + given_by read 0 drain_count;
 }
 
 step_more : (b : Behind) (count : ℕ) (read : Option Step) → IsIn b.config read
     → cond (is_none read) (Some cause.Range)
-    (cond (leb 65536 b.steps || ltb 64 (b.arms + given_by read 0 arm_count) || ltb 1024 (b.drains + given_by read 0 drain_count)) (Some cause.Many)
+    (cond (leb 65536 b.steps || ltb 64 (b.arms + given_by read 0 arms_of_step) || ltb 1024 (b.drains + given_by read 0 drain_count)) (Some cause.Many)
     (cond (given_by read false (is_step_misplaced b.block)) (Some cause.Block) None)) ≡ None
     → IsKept b count → IsKept (stepped b read) (count + 1)
 step_more b count None within e k = absurd cc
 step_more b count (Some s) within e k =
-    let told = three_false false (leb 65536 b.steps || ltb 64 (b.arms + arm_count s) || ltb 1024 (b.drains + drain_count s)) (is_step_misplaced b.block s)
+    let told = three_false false (leb 65536 b.steps || ltb 64 (b.arms + arms_of_step s) || ltb 1024 (b.drains + drain_count s)) (is_step_misplaced b.block s)
     cause.Range cause.Many cause.Block e in
-    let all = or_parts (leb 65536 b.steps || ltb 64 (b.arms + arm_count s)) (ltb 1024 (b.drains + drain_count s)) told.1 in
-    let many = or_parts (leb 65536 b.steps) (ltb 64 (b.arms + arm_count s)) all.0 in
+    let all = or_parts (leb 65536 b.steps || ltb 64 (b.arms + arms_of_step s)) (ltb 1024 (b.drains + drain_count s)) told.1 in
+    let many = or_parts (leb 65536 b.steps) (ltb 64 (b.arms + arms_of_step s)) all.0 in
     let room = leb-false 65536 b.steps many.0 in
-    let room_for_arms = ltb-false 64 (b.arms + arm_count s) many.1 in
+    let room_for_arms = ltb-false 64 (b.arms + arms_of_step s) many.1 in
     let room_for_drains = ltb-false 1024 (b.drains + drain_count s) all.1 in
     record {
       lives = k.lives;
@@ -142,13 +142,13 @@ power_more b count e k =
       lives = rw (list_all-append (are_parts_in b.config) b.lives (b.parts ∷ []), k.lives, k.parts) refl;
       parts = refl;
       block = k.block;
-      steps = omega (arith, k.steps, sum_by_push steps_of b.lives b.parts);
+      steps = omega (arith, k.steps, sum_by_push steps_of_parts b.lives b.parts);
       few = k.few;
-      arms = omega (arith, k.arms, sum_by_push arms_of b.lives b.parts);
+      arms = omega (arith, k.arms, sum_by_push arms_of_parts b.lives b.parts);
       few_arms = k.few_arms;
-      drains = omega (arith, k.drains, sum_by_push drains_of b.lives b.parts);
+      drains = omega (arith, k.drains, sum_by_push drains_of_parts b.lives b.parts);
       few_drains = k.few_drains;
-      marks = omega (arith, k.marks, sum_by_push marks_of b.lives b.parts);
+      marks = omega (arith, k.marks, sum_by_push lines_at_least b.lives b.parts);
       few_lives = omega (arith, length-append b.lives (b.parts ∷ []));
     }
 
@@ -209,7 +209,7 @@ end_more b count e k =
 
 module _ (dids : List DidUse) where
   more : (l : Line) (past : List Line) → refusal dids (behind dids past) l ≡ None → IsKept (behind dids past) (length past) → IsKept (behind dids (l ∷ past)) (length past + 1)
-  unfolding added refusal setting_refusal flash_refusal event_refusal did_refusal step_refusal
+  unfolding added_line refusal setting_refusal flash_refusal event_refusal did_refusal step_refusal
   more line.Skipped past e k = record {
     lives = k.lives;
     parts = k.parts;
@@ -262,9 +262,9 @@ module _ (dids : List DidUse) where
       let k = of_accepted_lines dids (λ (past : List Line). IsKept (behind dids past) (length past)) one_more [] texts lines none_kept e in
       record {
         in_range = rw (list_all-append (are_parts_in b.config) b.lives (b.parts ∷ []), k.lives, k.parts) refl;
-        few = omega (arith, k.steps, k.few, sum_by_push steps_of b.lives b.parts);
-        few_arms = omega (arith, k.arms, k.few_arms, sum_by_push arms_of b.lives b.parts);
-        few_drains = omega (arith, k.drains, k.few_drains, sum_by_push drains_of b.lives b.parts);
-        few_parts = omega (arith, k.marks, few, sum_by_push marks_of b.lives b.parts);
+        few = omega (arith, k.steps, k.few, sum_by_push steps_of_parts b.lives b.parts);
+        few_arms = omega (arith, k.arms, k.few_arms, sum_by_push arms_of_parts b.lives b.parts);
+        few_drains = omega (arith, k.drains, k.few_drains, sum_by_push drains_of_parts b.lives b.parts);
+        few_parts = omega (arith, k.marks, few, sum_by_push lines_at_least b.lives b.parts);
         few_lives = omega (arith, k.few_lives, length-append b.lives (b.parts ∷ []));
       }

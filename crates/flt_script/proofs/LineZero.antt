@@ -29,8 +29,8 @@ use Rattle.flt_script.specs.declared.fault.ScriptFault.{ScriptFault}
 use Rattle.flt_script.specs.Said.{Line}
 use Rattle.flt_script.specs.Said as line
 use Rattle.flt_script.specs.declared.places.Places.{Places}
-use Rattle.flt_script.specs.Behind.{Behind, blank, added, behind, event_count, has_begun}
-use Rattle.flt_script.specs.Causes.{causes, holds, cause_told}
+use Rattle.flt_script.specs.Behind.{Behind, blank, added_line, behind, event_count, has_begun}
+use Rattle.flt_script.specs.Causes.{causes, cause_holds, cause_told}
 use Rattle.flt_script.specs.Event.{event_held}
 use Rattle.flt_script.specs.Gives.{◌>>=◌}
 use Rattle.flt_script.specs.Laws.{LineZeroIsLarge}
@@ -79,8 +79,8 @@ unfolding event_refusal
 room_for_event b event e = leb-false EVENTS (event_count b)
     (third_is_false (has_begun b || not (event.number == event_count b)) (is_none (event_held event)) (leb EVENTS (event_count b)) cause.Order cause.Range cause.Many e)
 
-sound_added : (dids : List DidUse) (number : ℕ) (b : Behind) (l : Line) → IsSound b → 0 < number → refusal dids b l ≡ None → IsSound (added dids number b l)
-unfolding added refusal
+sound_added : (dids : List DidUse) (number : ℕ) (b : Behind) (l : Line) → IsSound b → 0 < number → refusal dids b l ≡ None → IsSound (added_line dids number b l)
+unfolding added_line refusal
 sound_added dids number b line.Skipped s some e = s
 sound_added dids number b (line.Config id) s some e = record { placed = s.placed; few = s.few; events = s.events; memory = s.memory; pages = s.pages; blocks = s.blocks }
 sound_added dids number b (line.Memory entries) s some e = record { placed = s.placed; few = s.few; events = s.events; memory = some; pages = s.pages; blocks = s.blocks }
@@ -243,7 +243,7 @@ found_passes p (first ∷ rest) c e = find_passes p c first rest (p first) refl 
 never_large : (dids : List DidUse) (past : List Line) (text : List ℕ) (c : LineCause) → line_behind dids past text ≡ Err c → c ≢ cause.Large
 never_large dids past text c e large =
     let told : cause_told (line_behind dids past text) ≡ Some cause.Large = rw (e, large) refl in
-    let passes = found_passes (holds dids (behind dids past) text) causes cause.Large (sym (first_cause_is_told dids past text) ∙ told) in
+    let passes = found_passes (cause_holds dids (behind dids past) text) causes cause.Large (sym (first_cause_is_told dids past text) ∙ told) in
     absurd cc
 
 -- A fault that is told at a line.

@@ -16,8 +16,8 @@ use Rattle.flt_script.specs.Laws.{LoadOfFour}
 use Rattle.flt_script.specs.Load.{load_config, next_number, load_number, load_step, load_lane, load_lanes, plain_parts, load_parts, load_life, shown_life}
 use Rattle.flt_step.specs.declared.step.Part.TheVariants.{One}
 use Rattle.flt_step.specs.Part.{PartOf, part_of}
-use Rattle.flt_step.specs.Step.{is_step_in, is_lane_step, has_store_step, store_lanes, is_lane_in, is_part_in, are_parts_in, steps_of_part, steps_of, lanes_of_part, lanes_of, arms_of_part, arms_of, drain_count, drains_of_lane, drains_of_part, drains_of}
-use Rattle.flt_script.specs.Within.{marks_of, IsWithinLimits}
+use Rattle.flt_step.specs.Step.{is_step_in, is_lane_step, has_store_step, store_lanes, is_lane_in, is_part_in, are_parts_in, steps_of_part, steps_of_parts, lanes_of_part, lanes_of_parts, arms_of_part, arms_of_parts, drain_count, drains_of_lane, drains_of_part, drains_of_parts}
+use Rattle.flt_script.specs.Within.{lines_at_least, IsWithinLimits}
 
 pub load_is_accepted : check_of load_config ≡ Ok load_config
 unfolding check_of load_config distinct_behind global_settings plain_settings jump_settings threshold_settings counter_settings debounce_settings did_width_settings did_settings event_settings events_settings ranges_result
@@ -125,11 +125,11 @@ plain_in (s ∷ steps) all =
     let first = and_parts (is_step_in load_config s) (is_lane_step s) here.0 in
     rw (first.0, plain_in steps here.1) refl
 
-steps_of-plain : (steps : List Step) → steps_of (plain_parts steps) ≡ length steps
+steps_of-plain : (steps : List Step) → steps_of_parts (plain_parts steps) ≡ length steps
 steps_of-plain [] = refl
 steps_of-plain (s ∷ steps) = omega (arith, steps_of-plain steps, sum_by-cons steps_of_part (inl s) (plain_parts steps))
 
-lanes_of-plain : (steps : List Step) → lanes_of (plain_parts steps) ≡ 0
+lanes_of-plain : (steps : List Step) → lanes_of_parts (plain_parts steps) ≡ 0
 lanes_of-plain [] = refl
 lanes_of-plain (s ∷ steps) = omega (arith, lanes_of-plain steps, sum_by-cons lanes_of_part (inl s) (plain_parts steps))
 
@@ -149,14 +149,14 @@ no_arm (step.Get block) may = refl
 no_arm (step.Ask block) may = refl
 no_arm (step.Arming arm) may = absurd cc
 
-arms_of-plain : (steps : List Step) → is_lane_in load_config steps ≡ true → arms_of (plain_parts steps) ≡ 0
+arms_of-plain : (steps : List Step) → is_lane_in load_config steps ≡ true → arms_of_parts (plain_parts steps) ≡ 0
 arms_of-plain [] all = refl
 arms_of-plain (s ∷ steps) all =
     let here = and_parts (is_step_in load_config s && is_lane_step s) (is_lane_in load_config steps) all in
     let first = and_parts (is_step_in load_config s) (is_lane_step s) here.0 in
     omega (arith, arms_of-plain steps here.1, no_arm s first.1, sum_by-cons arms_of_part (inl s) (plain_parts steps))
 
-drains_of-plain : (steps : List Step) → drains_of (plain_parts steps) ≡ drains_of_lane steps
+drains_of-plain : (steps : List Step) → drains_of_parts (plain_parts steps) ≡ drains_of_lane steps
 drains_of-plain [] = refl
 drains_of-plain (s ∷ steps) = omega (arith, drains_of-plain steps, sum_by-cons drains_of_part (inl s) (plain_parts steps), sum_by-cons drain_count s steps)
 
@@ -164,17 +164,17 @@ drains_of-plain (s ∷ steps) = omega (arith, drains_of-plain steps, sum_by-cons
 
 record IsPart (parts : List (PartOf Step)) (steps : ℕ) : Type 0 where
   in_range : are_parts_in load_config parts ≡ true
-  few : steps_of parts ≡ steps
-  few_arms : arms_of parts ≡ 0
-  no_drains : drains_of parts ≡ 0
-  few_marks : marks_of parts ≤ steps + 5
+  few : steps_of_parts parts ≡ steps
+  few_arms : arms_of_parts parts ≡ 0
+  no_drains : drains_of_parts parts ≡ 0
+  few_marks : lines_at_least parts ≤ steps + 5
 
 record IsPlain (parts : List (PartOf Step)) (steps drains : ℕ) : Type 0 where
   in_range : are_parts_in load_config parts ≡ true
-  few : steps_of parts ≡ steps
-  no_arms : arms_of parts ≡ 0
-  drained : drains_of parts ≡ drains
-  no_lanes : lanes_of parts ≡ 0
+  few : steps_of_parts parts ≡ steps
+  no_arms : arms_of_parts parts ≡ 0
+  drained : drains_of_parts parts ≡ drains
+  no_lanes : lanes_of_parts parts ≡ 0
   long : length parts ≡ steps
 
 flat_plain : (lanes : List (List Step)) → list_all (is_lane_in load_config) lanes ≡ true → IsPlain (flat_map plain_parts lanes) (sum_by length lanes) (sum_by drains_of_lane lanes)
@@ -219,7 +219,7 @@ module _ (count : ℕ) (lanes : Bool) where
   life_in : are_parts_in load_config (load_life count lanes) ≡ true
   life_in = rw (list_all-append (is_part_in load_config) (load_parts count lanes) (inl step.Save ∷ []), (reports_are_part count lanes).in_range) refl
 
-  life_steps : steps_of (load_life count lanes) ≡ count + 2
+  life_steps : steps_of_parts (load_life count lanes) ≡ count + 2
   life_steps = omega (
     arith,
     (reports_are_part count lanes).few,
@@ -228,7 +228,7 @@ module _ (count : ℕ) (lanes : Bool) where
     sum_by-cons steps_of_part (inl step.Save) [],
   )
 
-  life_arms : arms_of (load_life count lanes) ≡ 0
+  life_arms : arms_of_parts (load_life count lanes) ≡ 0
   life_arms = omega (
     arith,
     (reports_are_part count lanes).few_arms,
@@ -237,7 +237,7 @@ module _ (count : ℕ) (lanes : Bool) where
     sum_by-cons arms_of_part (inl step.Save) [],
   )
 
-  life_drains : drains_of (load_life count lanes) ≡ 0
+  life_drains : drains_of_parts (load_life count lanes) ≡ 0
   life_drains = omega (
     arith,
     (reports_are_part count lanes).no_drains,
@@ -246,7 +246,7 @@ module _ (count : ℕ) (lanes : Bool) where
     sum_by-cons drains_of_part (inl step.Save) [],
   )
 
-  life_marks : marks_of (load_life count lanes) ≤ count + 7
+  life_marks : lines_at_least (load_life count lanes) ≤ count + 7
   life_marks = omega (
     arith,
     (reports_are_part count lanes).few_marks,
@@ -260,26 +260,26 @@ shown_in : are_parts_in load_config shown_life ≡ true
 unfolding load_config
 shown_in = refl
 
-shown_steps : steps_of shown_life ≡ 16
+shown_steps : steps_of_parts shown_life ≡ 16
 shown_steps = refl
 
-shown_arms : arms_of shown_life ≡ 0
+shown_arms : arms_of_parts shown_life ≡ 0
 shown_arms = refl
 
-shown_drains : drains_of shown_life ≡ 0
+shown_drains : drains_of_parts shown_life ≡ 0
 shown_drains = refl
 
-shown_marks : marks_of shown_life ≡ 16
+shown_marks : lines_at_least shown_life ≡ 16
 shown_marks = refl
 
 -- The lives of a load are those of a script.
 pub load_within : (count : ℕ) (lanes : Bool) → count ≤ 60000 → IsWithinLimits load_config (load_life count lanes ∷ shown_life ∷ [])
 load_within count lanes few = record {
   in_range = rw (life_in count lanes, shown_in) refl;
-  few = omega (arith, life_steps count lanes, shown_steps, sum_by-cons steps_of (load_life count lanes) (shown_life ∷ []), sum_by-cons steps_of shown_life []);
-  few_arms = omega (arith, life_arms count lanes, shown_arms, sum_by-cons arms_of (load_life count lanes) (shown_life ∷ []), sum_by-cons arms_of shown_life []);
-  few_drains = omega (arith, life_drains count lanes, shown_drains, sum_by-cons drains_of (load_life count lanes) (shown_life ∷ []), sum_by-cons drains_of shown_life []);
-  few_parts = omega (arith, life_marks count lanes, shown_marks, sum_by-cons marks_of (load_life count lanes) (shown_life ∷ []), sum_by-cons marks_of shown_life []);
+  few = omega (arith, life_steps count lanes, shown_steps, sum_by-cons steps_of_parts (load_life count lanes) (shown_life ∷ []), sum_by-cons steps_of_parts shown_life []);
+  few_arms = omega (arith, life_arms count lanes, shown_arms, sum_by-cons arms_of_parts (load_life count lanes) (shown_life ∷ []), sum_by-cons arms_of_parts shown_life []);
+  few_drains = omega (arith, life_drains count lanes, shown_drains, sum_by-cons drains_of_parts (load_life count lanes) (shown_life ∷ []), sum_by-cons drains_of_parts shown_life []);
+  few_parts = omega (arith, life_marks count lanes, shown_marks, sum_by-cons lines_at_least (load_life count lanes) (shown_life ∷ []), sum_by-cons lines_at_least shown_life []);
   few_lives = omega arith;
 }
 

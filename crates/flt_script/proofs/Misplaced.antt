@@ -7,23 +7,23 @@ use Rattle.flt_script.specs.declared.fault.LineCause.TheVariants.{Block}
 use Rattle.flt_script.specs.declared.line.StepLine.{StepLine}
 use Rattle.flt_script.specs.Said as line
 use Rattle.flt_step.specs.declared.step.Step.{Step}
-use Rattle.flt_script.specs.Behind.{Behind, added, in_last_lane, step_of}
+use Rattle.flt_script.specs.Behind.{Behind, added_line, in_last_lane, step_of}
 use Rattle.flt_script.specs.Next.{with_line, with_lane_step}
 use Rattle.flt_script.specs.Refusal.{is_step_misplaced, step_refusal, refusal}
-use Rattle.flt_step.specs.Step.{arm_count, drain_count}
+use Rattle.flt_step.specs.Step.{arms_of_step, drain_count}
 
 -- A step of a line that is read, where there are not too many.
 module _ (w : StepLine) (s : Step) (b : Behind) (read : step_of b.config w ≡ Some s)
-    (room : b.steps < 65536) (room_for_arms : b.arms + arm_count s ≤ 64) (room_for_drains : b.drains + drain_count s ≤ 1024) where
+    (room : b.steps < 65536) (room_for_arms : b.arms + arms_of_step s ≤ 64) (room_for_drains : b.drains + drain_count s ≤ 1024) where
   -- Outside of blocks.
   pub put_alone : b.block ≡ None → with_line [] 0 b (line.Step w)
-      ≡ Ok (record b { parts = b.parts ++ inl s ∷ []; steps = b.steps + 1; arms = b.arms + arm_count s; drains = b.drains + drain_count s })
-  unfolding with_line added refusal step_refusal
+      ≡ Ok (record b { parts = b.parts ++ inl s ∷ []; steps = b.steps + 1; arms = b.arms + arms_of_step s; drains = b.drains + drain_count s })
+  unfolding with_line added_line refusal step_refusal
   put_alone there =
       rw (
         read,
         lt-leb 65536 b.steps room,
-        le-ltb 64 (b.arms + arm_count s) room_for_arms,
+        le-ltb 64 (b.arms + arms_of_step s) room_for_arms,
         le-ltb 1024 (b.drains + drain_count s) room_for_drains,
         there,
       ) refl
@@ -31,8 +31,8 @@ module _ (w : StepLine) (s : Step) (b : Behind) (read : step_of b.config w ≡ S
   -- In the last lane of a block.
   module _ (lanes : List (List Step)) (there : b.block ≡ Some lanes) where
     lane_put : (more : List (List Step)) (wrong : Bool) → is_step_misplaced (Some lanes) s ≡ wrong → with_lane_step s lanes ≡ Ok more → with_line [] 0 b (line.Step w)
-        ≡ Ok (record b { block = Some more; steps = b.steps + 1; arms = b.arms + arm_count s; drains = b.drains + drain_count s })
-    unfolding with_line added refusal step_refusal
+        ≡ Ok (record b { block = Some more; steps = b.steps + 1; arms = b.arms + arms_of_step s; drains = b.drains + drain_count s })
+    unfolding with_line added_line refusal step_refusal
     lane_put more true is e = let never = rw is at e in absurd cc
     lane_put more false is e =
         let known = rw is at e in
@@ -40,7 +40,7 @@ module _ (w : StepLine) (s : Step) (b : Behind) (read : step_of b.config w ≡ S
         rw (
           read,
           lt-leb 65536 b.steps room,
-          le-ltb 64 (b.arms + arm_count s) room_for_arms,
+          le-ltb 64 (b.arms + arms_of_step s) room_for_arms,
           le-ltb 1024 (b.drains + drain_count s) room_for_drains,
           there,
           is,
@@ -48,18 +48,18 @@ module _ (w : StepLine) (s : Step) (b : Behind) (read : step_of b.config w ≡ S
         ) refl
 
     pub put_in_lane : (more : List (List Step)) → with_lane_step s lanes ≡ Ok more → with_line [] 0 b (line.Step w)
-        ≡ Ok (record b { block = Some more; steps = b.steps + 1; arms = b.arms + arm_count s; drains = b.drains + drain_count s })
+        ≡ Ok (record b { block = Some more; steps = b.steps + 1; arms = b.arms + arms_of_step s; drains = b.drains + drain_count s })
     put_in_lane more e = lane_put more (is_step_misplaced (Some lanes) s) refl e
 
     lane_refused : (c : LineCause) (wrong : Bool) → is_step_misplaced (Some lanes) s ≡ wrong → with_lane_step s lanes ≡ Err c → with_line [] 0 b (line.Step w) ≡ Err c
-    unfolding with_line added refusal step_refusal
+    unfolding with_line added_line refusal step_refusal
     lane_refused c true is e =
         let known = rw is at e in
         let same : Block ≡ c = cc in
         rw (
           read,
           lt-leb 65536 b.steps room,
-          le-ltb 64 (b.arms + arm_count s) room_for_arms,
+          le-ltb 64 (b.arms + arms_of_step s) room_for_arms,
           le-ltb 1024 (b.drains + drain_count s) room_for_drains,
           there,
           is,

@@ -6,7 +6,7 @@ use Rattle.flt_script.specs.declared.event.DebounceLine.{DebounceLine}
 use Rattle.flt_script.specs.declared.event.EventLine.{EventLine}
 use Rattle.flt_script.specs.declared.event.Numbers.{Numbers}
 use Rattle.flt_script.specs.declared.pair.Key.TheVariants.{Dtc, Count, JumpUp, JumpDown, Time}
-use Rattle.flt_script.specs.Event.{stands, times_of, counter_of, debounce_of, numbers_of, dtc_of, event_of}
+use Rattle.flt_script.specs.Event.{has_pair, times_of, counter_of, debounce_of, numbers_of, spelled_dtc, event_line_of}
 use Rattle.flt_script.specs.Gives.{◌⇒◌, given_by}
 use Rattle.flt_script.specs.Laws.{OddEventsAreRefused}
 use Rattle.flt_script.specs.Numeral.{number}
@@ -32,8 +32,8 @@ without_debounce false (Some number) None p = refl
 without_debounce false (Some number) (Some dtc) None = refl
 without_debounce false (Some number) (Some dtc) (Some numbers) = refl
 
-dtc_missing : (pairs : List (List ℕ)) → stands Dtc pairs ≡ false → dtc_of pairs ≡ None
-unfolding dtc_of
+dtc_missing : (pairs : List (List ℕ)) → has_pair Dtc pairs ≡ false → spelled_dtc pairs ≡ None
+unfolding spelled_dtc
 dtc_missing pairs e = rw (none_of (values_of Dtc pairs) e) refl
 
 clash : (times : Option (List (List ℕ))) (other : Bool) (counter : Option DebounceLine) → is_some times ≡ true → other ≡ true
@@ -41,18 +41,18 @@ clash : (times : Option (List (List ℕ))) (other : Bool) (counter : Option Debo
 clash None other counter some e = absurd cc
 clash (Some values) other counter some e = rw e refl
 
-debounce_clashes : (pairs : List (List ℕ)) → stands Time pairs ≡ true → (stands Count pairs || stands JumpUp pairs || stands JumpDown pairs) ≡ true
+debounce_clashes : (pairs : List (List ℕ)) → has_pair Time pairs ≡ true → (has_pair Count pairs || has_pair JumpUp pairs || has_pair JumpDown pairs) ≡ true
     → debounce_of pairs ≡ None
 unfolding debounce_of
 debounce_clashes pairs time other =
-    clash (values_of Time pairs) (stands Count pairs || stands JumpUp pairs || stands JumpDown pairs) (counter_of pairs) time other
+    clash (values_of Time pairs) (has_pair Count pairs || has_pair JumpUp pairs || has_pair JumpDown pairs) (counter_of pairs) time other
 
 pub odd_events_are_refused : OddEventsAreRefused
-unfolding event_of
+unfolding event_line_of
 odd_events_are_refused = record {
   twice = λ n pairs e. rw (e, or-true (not (starts_with_key pairs))) refl;
   no_dtc = λ n pairs e.
       rw (dtc_missing pairs e) (without_dtc (not (starts_with_key pairs) || any_twice pairs) (number n) (numbers_of pairs) (debounce_of pairs));
   both = λ n pairs time other.
-      rw (debounce_clashes pairs time other) (without_debounce (not (starts_with_key pairs) || any_twice pairs) (number n) (dtc_of pairs) (numbers_of pairs));
+      rw (debounce_clashes pairs time other) (without_debounce (not (starts_with_key pairs) || any_twice pairs) (number n) (spelled_dtc pairs) (numbers_of pairs));
 }

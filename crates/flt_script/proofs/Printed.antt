@@ -11,7 +11,7 @@ use Rattle.flt_script.specs.declared.line.StepLine.TheVariants as written
 use Rattle.flt_step.specs.declared.step.Step.TheVariants as step
 use Rattle.flt_script.specs.Laws.{are_bytes, PrintedStepIsReadAgain}
 use Rattle.flt_script.specs.Line.{keyword_of, report_with, two_numbers, line_with, by_words, line_of}
-use Rattle.flt_script.specs.Text.{words_of, is_blank}
+use Rattle.flt_script.specs.Text.{words_of, is_space_or_tab}
 use Rattle.flt_script.proofs.PrintedArm.{arm_is_read}
 use Rattle.flt_script.proofs.PrintedNumber.{few_digits, number-decimal, words_of-decimal, plain_digits, with_one, with_more}
 use Rattle.flt_script.proofs.PrintedPost.{post_is_read}
@@ -24,15 +24,15 @@ few_blocks : (block : ℕ) → ltb block 256 ≡ true → block < 10 ^ 10
 few_blocks block held = let below = ltb-true block 256 held in omega arith
 
 save_is_read : line_of (codes "save") ≡ Ok (line.Step written.Save)
-unfolding line_of by_words words_of is_blank keyword_of line_with
+unfolding line_of by_words words_of is_space_or_tab keyword_of line_with
 save_is_read = refl
 
 drain_is_read : line_of (codes "drain") ≡ Ok (line.Step written.Drain)
-unfolding line_of by_words words_of is_blank keyword_of line_with
+unfolding line_of by_words words_of is_space_or_tab keyword_of line_with
 drain_is_read = refl
 
 pub printed_step_is_read_again : PrintedStepIsReadAgain
-unfolding keyword_of line_with report_with two_numbers is_blank
+unfolding keyword_of line_with report_with two_numbers is_space_or_tab
 printed_step_is_read_again config (step.Report event Passed) few among held =
     let small = few_events (length config.events.items) event few among in (
       written.Report event Passed,

@@ -16,22 +16,22 @@ use Rattle.flt_script.specs.Behind.{arm_of}
 use Rattle.flt_script.specs.Laws.{EachArmCanBeMade}
 use Rattle.flt_script.specs.Line.{keyword_of, three_numbers, number_and_pattern, line_with, line_of}
 use Rattle.flt_step.specs.Words.{pattern_text, arm_text, with_number}
-use Rattle.flt_script.specs.Pattern.{pattern_of}
+use Rattle.flt_script.specs.Pattern.{pattern_spelled}
 use Rattle.flt_step.specs.Step.{is_arm_in}
-use Rattle.flt_script.specs.Text.{words_of, is_blank, all_plain}
+use Rattle.flt_script.specs.Text.{words_of, is_space_or_tab, all_plain}
 use Rattle.flt_script.proofs.PrintedNumber.{few_digits, number-decimal, words_of-decimal, plain_digits, words_of_number, plain_number, with_more}
 use Rattle.flt_script.proofs.Solid.{words_of_one}
 
 -- A pattern's word.
-pattern_is_read : (pattern : Pattern) → pattern_of (pattern_text pattern) ≡ Some pattern
-unfolding pattern_of
+pattern_is_read : (pattern : Pattern) → pattern_spelled (pattern_text pattern) ≡ Some pattern
+unfolding pattern_spelled
 pattern_is_read Nothing = refl
 pattern_is_read All = refl
 pattern_is_read Tail = refl
 pattern_is_read Odd = refl
 
 words_of-pattern : (pattern : Pattern) → words_of (pattern_text pattern) ≡ pattern_text pattern ∷ []
-unfolding is_blank
+unfolding is_space_or_tab
 words_of-pattern Nothing = words_of_one (codes "none") refl (lit< tt)
 words_of-pattern All = words_of_one (codes "all") refl (lit< tt)
 words_of-pattern Tail = words_of_one (codes "tail") refl (lit< tt)
@@ -54,7 +54,7 @@ small_count n among = let most = leb-true n 65535 (and_parts (leb 1 n) (leb n 65
 
 pub arm_is_read : (arm : Arm) → is_arm_in arm ≡ true
     → (w : ArmLine) × (line_of (arm_text arm) ≡ Ok (line.Step (steps.Arming w))) × (arm_of w ≡ Some arm)
-unfolding keyword_of line_with number_and_pattern three_numbers arm_of is_blank
+unfolding keyword_of line_with number_and_pattern three_numbers arm_of is_space_or_tab
 arm_is_read (Cut after pattern) among =
     let small = small_count after among in (
       written.Cut after pattern,

@@ -12,7 +12,7 @@ use Rattle.flt_script.specs.Bytes.{bytes_of}
 use Rattle.flt_step.specs.Words.{two_digits, spaced, bytes_text, step_text}
 use Rattle.flt_script.specs.Laws.{are_bytes}
 use Rattle.flt_script.specs.Line.{keyword_of, post_with, line_with, line_of}
-use Rattle.flt_script.specs.Text.{words_of, is_blank, is_plain, all_plain}
+use Rattle.flt_script.specs.Text.{words_of, is_space_or_tab, is_plain, all_plain}
 use Rattle.flt_script.proofs.PrintedNumber.{number-decimal, with_more}
 use Rattle.flt_script.proofs.PrintedRequest.{digits_are_solid, words_of-spaced, plain-spaced, length-spaced, each-two_digits}
 use Rattle.flt_script.proofs.Solid.{solid_is_plain}
@@ -44,7 +44,7 @@ module _ (byte : ℕ) (bytes : List ℕ) (most : length (byte ∷ bytes) ≤ 32)
 
   pub job_is_read : (urgent : Bool) (block : ℕ) → block < 10 ^ 10
       → line_of (step_text (step.Post urgent block (record { items = byte ∷ bytes }))) ≡ Ok (line.Step (written.Post urgent block (record { items = byte ∷ bytes })))
-  unfolding line_with post_with bytes_of keyword_of is_blank
+  unfolding line_with post_with bytes_of keyword_of is_space_or_tab
   job_is_read false block low =
       with_more (codes "post") refl (lit< tt) (lit≤ tt) block low (bytes_text (byte ∷ bytes)) short plain keyword.Post refl refl
       ∙ rw (words, number-decimal block low, one, few, each-two_digits (byte ∷ bytes) small) refl

@@ -17,12 +17,12 @@ use Rattle.flt_step.specs.Words.{letter_of, two_digits, spaced, step_text}
 use Rattle.flt_script.specs.Laws.{are_bytes}
 use Rattle.flt_script.specs.Line.{keyword_of, line_with, request_with, line_of}
 use Rattle.flt_script.specs.Numeral.{numeral, hexadecimal}
-use Rattle.flt_script.specs.Text.{words_of, is_blank, is_plain, all_plain}
+use Rattle.flt_script.specs.Text.{words_of, is_space_or_tab, is_plain, all_plain}
 use Rattle.flt_script.proofs.Solid.{is_solid, solid_is_plain, words_of_one, words_of_first, by_keyword}
 
 -- A hexadecimal digit.
 pub glyph_is_solid : (d : ℕ) → d < 16 → is_solid (digit_glyph true d) ≡ true
-unfolding is_blank
+unfolding is_space_or_tab
 glyph_is_solid d small = grind (arith, nat_tests)
 
 pub glyph_value : (d : ℕ) → d < 16 → digit_value (digit_glyph true d) ≡ d
@@ -71,7 +71,7 @@ each-two_digits (byte ∷ bytes) small =
 
 -- A tester's letter.
 letter_is_solid : (tester : ℕ) → is_solid (letter_of tester) ≡ true
-unfolding is_blank
+unfolding is_space_or_tab
 letter_is_solid tester = grind (arith, nat_tests)
 
 tester_is_read : (tester : ℕ) → tester ≤ 3 → tester_of (letter_of tester ∷ []) ≡ Some tester
@@ -79,7 +79,7 @@ tester_is_read tester last = grind (arith, nat_tests)
 
 pub request_is_read : (tester : ℕ) (bytes : List ℕ) → tester ≤ 3 → 0 < length bytes → length bytes ≤ 16 → are_bytes bytes ≡ true
     → line_of (step_text (step.Request tester (record { items = bytes }))) ≡ Ok (line.Step (written.Request tester (record { items = bytes })))
-unfolding line_with request_with bytes_of keyword_of is_blank
+unfolding line_with request_with bytes_of keyword_of is_space_or_tab
 request_is_read tester [] last some most small = absurd (omega arith)
 request_is_read tester (byte ∷ bytes) last some most small =
     let letter : List ℕ = letter_of tester ∷ [] in

@@ -15,7 +15,7 @@ use Rattle.flt_script.specs.declared.fault.ParseFault.{ParseFault}
 use Rattle.flt_script.specs.Said.{Line}
 use Rattle.flt_script.specs.Said as line
 use Rattle.flt_script.specs.declared.script.Script.{Script}
-use Rattle.flt_script.specs.Behind.{Behind, added, behind, with_use, with_use_at}
+use Rattle.flt_script.specs.Behind.{Behind, added_line, behind, with_use, with_use_at}
 use Rattle.flt_script.specs.Event.{event_held, debounce_held}
 use Rattle.flt_script.specs.Gives.{◌⇒◌, IsAsDefined}
 use Rattle.flt_script.specs.Numeral.{up_to}
@@ -96,7 +96,7 @@ serves_new dids (Some event) none = all-one (AreServed dids) event (rw none (all
 
 -- What the lines configure.
 serves : (dids : List DidUse) (past : List Line) → Serves dids (behind dids past).config.events.items
-unfolding added
+unfolding added_line
 serves dids [] = all-nil (AreServed dids)
 serves dids (line.Skipped ∷ past) = serves dids past
 serves dids (line.Config id ∷ past) = serves dids past

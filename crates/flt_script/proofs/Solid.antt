@@ -15,38 +15,38 @@ use Rattle.flt_script.specs.declared.fault.LineCause.TheVariants.{Form}
 use Rattle.flt_script.specs.declared.keyword.Keyword.{Keyword}
 use Rattle.flt_script.specs.Line.{keyword_of, line_with, is_comment, by_words, line_of}
 use Rattle.flt_script.specs.Numeral.{all_digits}
-use Rattle.flt_script.specs.Text.{words_of, is_blank, is_word, is_plain, all_plain}
+use Rattle.flt_script.specs.Text.{words_of, is_space_or_tab, is_word, is_plain, all_plain}
 use Rattle.flt_script.proofs.Words.{a_word}
 
 -- A byte of a word that is printed.
 abbrev pub is_solid : ℕ → Bool
-is_solid byte = is_plain byte && not (is_blank byte)
+is_solid byte = is_plain byte && not (is_space_or_tab byte)
 
 pub solid_is_plain : (word : List ℕ) → list_all is_solid word ≡ true → all_plain word ≡ true
 solid_is_plain [] e = refl
 solid_is_plain (byte ∷ word) e =
     let parts = and_parts (is_solid byte) (list_all is_solid word) e in
-    let first = and_parts (is_plain byte) (not (is_blank byte)) parts.0 in
+    let first = and_parts (is_plain byte) (not (is_space_or_tab byte)) parts.0 in
     rw (first.0, solid_is_plain word parts.1) refl
 
-solid_is_whole : (word : List ℕ) → list_all is_solid word ≡ true → list_all (λ byte. not (is_blank byte)) word ≡ true
+solid_is_whole : (word : List ℕ) → list_all is_solid word ≡ true → list_all (λ byte. not (is_space_or_tab byte)) word ≡ true
 solid_is_whole [] e = refl
 solid_is_whole (byte ∷ word) e =
     let parts = and_parts (is_solid byte) (list_all is_solid word) e in
-    let first = and_parts (is_plain byte) (not (is_blank byte)) parts.0 in
+    let first = and_parts (is_plain byte) (not (is_space_or_tab byte)) parts.0 in
     rw (first.1, solid_is_whole word parts.1) refl
 
-pub none_blank : (word : List ℕ) → list_all is_solid word ≡ true → All (λ byte. is_blank byte ≡ false) word
-none_blank word e = λ k d within. not-true _ (AllPass-from_list_all (λ (byte : ℕ). not (is_blank byte)) word (solid_is_whole word e) k d within)
+pub none_blank : (word : List ℕ) → list_all is_solid word ≡ true → All (λ byte. is_space_or_tab byte ≡ false) word
+none_blank word e = λ k d within. not-true _ (AllPass-from_list_all (λ (byte : ℕ). not (is_space_or_tab byte)) word (solid_is_whole word e) k d within)
 
 -- It is one word.
 pub words_of_one : (word : List ℕ) → list_all is_solid word ≡ true → 0 < length word → words_of word ≡ word ∷ []
-unfolding words_of is_blank
-words_of_one word solid some = ap (filter is_word) (slice_split_none is_blank word (none_blank word solid)) ∙ a_word word [] some
+unfolding words_of is_space_or_tab
+words_of_one word solid some = ap (filter is_word) (slice_split_none is_space_or_tab word (none_blank word solid)) ∙ a_word word [] some
 
 -- A digit is visible.
 digit_is_solid : (byte : ℕ) → digit_value byte < 10 → is_solid byte ≡ true
-unfolding is_blank
+unfolding is_space_or_tab
 digit_is_solid byte small =
     let range = digit_from_value byte small in
     let low : 48 ≤ byte = range.0 in
@@ -65,9 +65,9 @@ digits_test (digit ∷ digits) all = rw (lt-ltb (digit_value digit) 10 all.0, di
 module _ (word rest : List ℕ) (solid : list_all is_solid word ≡ true) (some : 0 < length word) where
   -- A word stands before a space.
   pub words_of_first : words_of (word ++ 32 ∷ rest) ≡ word ∷ words_of rest
-  unfolding words_of is_blank
+  unfolding words_of is_space_or_tab
   words_of_first =
-      ap (filter is_word) (slice_split_at is_blank word 32 rest (none_blank word solid) refl) ∙ a_word word (slice_split is_blank rest) some
+      ap (filter is_word) (slice_split_at is_space_or_tab word 32 rest (none_blank word solid) refl) ∙ a_word word (slice_split is_space_or_tab rest) some
 
   pub plain_first : all_plain rest ≡ true → all_plain (word ++ 32 ∷ rest) ≡ true
   plain_first plain = list_all-append is_plain word (32 ∷ rest) ∙ rw (solid_is_plain word solid, plain) refl

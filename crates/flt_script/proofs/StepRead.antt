@@ -12,13 +12,13 @@ use Rattle.flt_step.specs.declared.step.Step.TheVariants as step
 use Rattle.flt_script.specs.Behind.{arm_of, step_of}
 use Rattle.flt_script.specs.Causes.{is_step_written, arms_written, drains_written, is_for_no_lane, is_for_one_lane}
 use Rattle.flt_script.specs.Gives.{◌⇒◌, given_by}
-use Rattle.flt_step.specs.Step.{is_step_in, is_lane_step, is_store_step, arm_count, drain_count}
+use Rattle.flt_step.specs.Step.{is_step_in, is_lane_step, is_store_step, arms_of_step, drain_count}
 use Rattle.flt_script.proofs.Kept.{kept}
 
 -- A step is as its line says.
 pub record IsSaid (config : Config) (written : StepLine) (s : Step) : Type 0 where
   pub within : is_step_in config s ≡ is_step_written config written
-  pub arms : arm_count s ≡ arms_written written
+  pub arms : arms_of_step s ≡ arms_written written
   pub drains : drain_count s ≡ drains_written written
   pub no_lane : not (is_lane_step s) ≡ is_for_no_lane written
   pub one_lane : is_store_step s ≡ is_for_one_lane written
@@ -111,7 +111,7 @@ in_range config w None r = tt
 in_range config w (Some s) r = r.said.within ∙ sym r.some
 
 -- It has as many arms and drains as its line.
-pub arms_read : (config : Config) (w : StepLine) (read : Option Step) → IsRead config w read → is_none read ≡ false → given_by read 0 arm_count ≡ arms_written w
+pub arms_read : (config : Config) (w : StepLine) (read : Option Step) → IsRead config w read → is_none read ≡ false → given_by read 0 arms_of_step ≡ arms_written w
 arms_read config w None r e = absurd cc
 arms_read config w (Some s) r e = r.said.arms
 

@@ -19,9 +19,9 @@ use Rattle.flt_step.specs.declared.step.Step.{Step}
 use Rattle.flt_step.specs.declared.step.Step.TheVariants as step
 use Rattle.flt_script.specs.Event.{event_held}
 use Rattle.flt_script.specs.Gives.{◌⇒◌, given_by}
-use Rattle.flt_script.specs.Numeral.{below, up_to, from_to}
+use Rattle.flt_script.specs.Numeral.{if_below, up_to, from_to}
 use Rattle.flt_step.specs.Part.{PartOf}
-use Rattle.flt_step.specs.Step.{arm_count, drain_count, has_store_step}
+use Rattle.flt_step.specs.Step.{arms_of_step, drain_count, has_store_step}
 
 -- All that the rules for the next line look at: what is configured and by which lines, the lives that were ended, the
 -- parts of the life under way, the lanes of the block under way, if there is one, and how many steps, how many of cut, fault
@@ -101,8 +101,8 @@ arm_of (Mute sector page times) =
 
 -- The step of a line under this configuration, or nothing where a number is out of its range.
 abbrev pub step_of : Config → StepLine → Option Step
-step_of config (Report event report) = option_map (λ event. step.Report event report) (below (length config.events.items) event)
-step_of config (Show event) = option_map step.Show (below (length config.events.items) event)
+step_of config (Report event report) = option_map (λ event. step.Report event report) (if_below (length config.events.items) event)
+step_of config (Show event) = option_map step.Show (if_below (length config.events.items) event)
 step_of config (Cycle cycle) = option_map step.Cycle (up_to 3 cycle)
 step_of config (Tick ticks) = option_map step.Tick (from_to 1 65535 ticks)
 step_of config (Signal index value) = up_to 7 index ⇒ λ index. up_to 65535 value ⇒ λ value. Some (step.Signal index value)
@@ -113,13 +113,13 @@ step_of config (Post urgent block bytes) =
     if nat_lt block config.blocks && nat_lt 0 (length bytes.items) && nat_le (length bytes.items) 32
     then Some (step.Post urgent block bytes) else None
 step_of config Drain = Some step.Drain
-step_of config (Get block) = option_map step.Get (below config.blocks block)
-step_of config (Ask block) = option_map step.Ask (below config.blocks block)
+step_of config (Get block) = option_map step.Get (if_below config.blocks block)
+step_of config (Ask block) = option_map step.Ask (if_below config.blocks block)
 step_of config (Arming arm) = option_map step.Arming (arm_of arm)
 
 -- How many of cut, fault and mute stand with this step.
 abbrev pub arms_with : Behind → StepLine → ℕ
-arms_with b step = b.arms + given_by (step_of b.config step) 0 arm_count
+arms_with b step = b.arms + given_by (step_of b.config step) 0 arms_of_step
 
 -- How many drains stand with this step.
 abbrev pub drains_with : Behind → StepLine → ℕ
@@ -137,35 +137,35 @@ with_step None step parts = parts ++ option_to_list (option_map inl step)
 with_step (Some lanes) step parts = parts
 
 -- What one more line adds, with these data identifiers in the table. The line's number is counted from 1.
-unfoldable pub added : List DidUse → ℕ → Behind → Line → Behind
-added dids number b line.Skipped = b
-added dids number b (line.Config id) =
+unfoldable pub added_line : List DidUse → ℕ → Behind → Line → Behind
+added_line dids number b line.Skipped = b
+added_line dids number b (line.Config id) =
     record b { config = record b.config { id = id }; places = record b.places { config = Some number } }
-added dids number b (line.Memory entries) =
+added_line dids number b (line.Memory entries) =
     record b { config = record b.config { memory = entries }; places = record b.places { memory = Some number } }
-added dids number b (line.Blocks blocks) =
+added_line dids number b (line.Blocks blocks) =
     record b { config = record b.config { blocks = blocks }; places = record b.places { blocks = Some number } }
-added dids number b (line.Flash sectors pages) =
+added_line dids number b (line.Flash sectors pages) =
     record b { config = record b.config { pages = pages }; places = record b.places { flash = Some number } }
-added dids number b (line.Event event) = record b {
+added_line dids number b (line.Event event) = record b {
   config = record b.config { events = record { items = b.config.events.items ++ option_to_list (event_held event) } };
   places = record b.places { events = record { items = b.places.events.items ++ number ∷ [] } };
 }
-added dids number b (line.Did event id) =
+added_line dids number b (line.Did event id) =
     record b { config = record b.config { events = record { items = with_use_at event (find (is_did id) dids) b.config.events.items } } }
-added dids number b (line.Step step) = record b {
+added_line dids number b (line.Step step) = record b {
   parts = with_step b.block (step_of b.config step) b.parts;
   block = option_map (in_last_lane (step_of b.config step)) b.block;
   steps = b.steps + 1;
   arms = arms_with b step;
   drains = drains_with b step;
 }
-added dids number b line.Power = record b { lives = b.lives ++ b.parts ∷ []; parts = [] }
-added dids number b line.Par = record b { block = Some [] }
-added dids number b line.Lane = record b { block = option_map (λ lanes. lanes ++ [] ∷ []) b.block }
-added dids number b line.End = record b { parts = b.parts ++ option_to_list (option_map inr b.block); block = None }
+added_line dids number b line.Power = record b { lives = b.lives ++ b.parts ∷ []; parts = [] }
+added_line dids number b line.Par = record b { block = Some [] }
+added_line dids number b line.Lane = record b { block = option_map (λ lanes. lanes ++ [] ∷ []) b.block }
+added_line dids number b line.End = record b { parts = b.parts ++ option_to_list (option_map inr b.block); block = None }
 
 -- What these lines gave, the newest first, with these data identifiers in the table.
 abbrev pub behind : List DidUse → List Line → Behind
 behind dids [] = blank
-behind dids (line ∷ past) = added dids (length past + 1) (behind dids past) line
+behind dids (line ∷ past) = added_line dids (length past + 1) (behind dids past) line

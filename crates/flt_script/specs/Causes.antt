@@ -170,17 +170,17 @@ on_line test None = false
 on_line test (Some line) = test line
 
 -- The cause holds of the line of this text.
-abbrev pub holds : List DidUse → Behind → List ℕ → LineCause → Bool
-holds dids b text Long = nat_lt 512 (length text)
-holds dids b text Byte = list_any is_strange text
-holds dids b text Word = is_unknown (words_of text)
-holds dids b text Form = is_none (line_said (words_of text))
-holds dids b text Order = on_line (λ line. configures line && has_begun b || is_set_already b line || has_wrong_event b line) (line_said (words_of text))
-holds dids b text Range = on_line (is_out_of_range b.config) (line_said (words_of text))
-holds dids b text Many = on_line (is_one_too_many b) (line_said (words_of text))
-holds dids b text Block = on_line (is_misplaced b) (line_said (words_of text))
-holds dids b text Did = on_line (is_did_unknown dids) (line_said (words_of text))
-holds dids b text _ = false
+abbrev pub cause_holds : List DidUse → Behind → List ℕ → LineCause → Bool
+cause_holds dids b text Long = nat_lt 512 (length text)
+cause_holds dids b text Byte = list_any is_strange text
+cause_holds dids b text Word = is_unknown (words_of text)
+cause_holds dids b text Form = is_none (line_said (words_of text))
+cause_holds dids b text Order = on_line (λ line. configures line && has_begun b || is_set_already b line || has_wrong_event b line) (line_said (words_of text))
+cause_holds dids b text Range = on_line (is_out_of_range b.config) (line_said (words_of text))
+cause_holds dids b text Many = on_line (is_one_too_many b) (line_said (words_of text))
+cause_holds dids b text Block = on_line (is_misplaced b) (line_said (words_of text))
+cause_holds dids b text Did = on_line (is_did_unknown dids) (line_said (words_of text))
+cause_holds dids b text _ = false
 
 -- The cause that is told, if one is.
 abbrev pub cause_told : Result Line LineCause → Option LineCause

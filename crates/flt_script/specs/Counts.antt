@@ -29,11 +29,11 @@ is_power line.Power = true
 is_power _ = false
 
 -- A step, the end of a life or the beginning of a block.
-abbrev pub is_done : Line → Bool
-is_done (line.Step step) = true
-is_done line.Power = true
-is_done line.Par = true
-is_done _ = false
+abbrev pub is_of_life : Line → Bool
+is_of_life (line.Step step) = true
+is_of_life line.Power = true
+is_of_life line.Par = true
+is_of_life _ = false
 
 -- An event.
 abbrev pub is_event : Line → Bool
@@ -99,7 +99,7 @@ pub record IsCounted (dids : List DidUse) (past : List Line) : Type 0 where
   pub lanes : lane_count (behind dids past).block ≡ lanes_in_block past
   pub store : is_store_used (behind dids past).block ≡ (is_block_open past && is_store_behind past)
   pub earlier_store : is_store_taken (behind dids past).block ≡ is_store_before_lane past
-  pub begun : has_begun (behind dids past) ≡ list_any is_done past
+  pub begun : has_begun (behind dids past) ≡ list_any is_of_life past
   pub config : is_some (behind dids past).places.config ≡ list_any is_config past
   pub memory : is_some (behind dids past).places.memory ≡ list_any is_memory past
   pub blocks : is_some (behind dids past).places.blocks ≡ list_any is_blocks past

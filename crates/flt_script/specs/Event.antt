@@ -21,21 +21,21 @@ only spelled (word ∷ []) = spelled word
 only spelled (word ∷ next ∷ more) = None
 
 -- What is spelled, or the default where nothing stands.
-abbrev pub given : {A : Type 0} → A → (List (List ℕ) → Option A) → Option (List (List ℕ)) → Option A
-given default spelled None = Some default
-given default spelled (Some values) = spelled values
+abbrev pub spelled_or : {A : Type 0} → A → (List (List ℕ) → Option A) → Option (List (List ℕ)) → Option A
+spelled_or default spelled None = Some default
+spelled_or default spelled (Some values) = spelled values
 
 -- The pair stands.
-abbrev pub stands : Key → List (List ℕ) → Bool
-stands key pairs = is_some (values_of key pairs)
+abbrev pub has_pair : Key → List (List ℕ) → Bool
+has_pair key pairs = is_some (values_of key pairs)
 
 -- The one number of a pair, or its default.
 unfoldable pub number_or : ℕ → Key → List (List ℕ) → Option ℕ
-number_or default key pairs = given default (only number) (values_of key pairs)
+number_or default key pairs = spelled_or default (only number) (values_of key pairs)
 
 -- The value to which a report jumps, if the pair stands.
 unfoldable pub jump_of : Key → List (List ℕ) → Option (Option ℤ)
-jump_of key pairs = given None (λ values. option_map Some (only signed values)) (values_of key pairs)
+jump_of key pairs = spelled_or None (λ values. option_map Some (only signed values)) (values_of key pairs)
 
 -- The four words of count: F, P, U and D.
 unfoldable pub threshold_words : List (List ℕ) → Option Thresholds
@@ -46,7 +46,7 @@ threshold_words _ = None
 
 -- What count says, or its defaults.
 unfoldable pub thresholds_of : List (List ℕ) → Option Thresholds
-thresholds_of pairs = given (record { fail = 1; pass = 1; up = 1; down = 1 }) threshold_words (values_of Count pairs)
+thresholds_of pairs = spelled_or (record { fail = 1; pass = 1; up = 1; down = 1 }) threshold_words (values_of Count pairs)
 
 -- The two words of time: F and P.
 unfoldable pub times_of : List (List ℕ) → Option DebounceLine
@@ -62,7 +62,7 @@ counter_of pairs =
 -- By times, which exclude what belongs to a counter, or by a counter.
 unfoldable pub debounce_of : List (List ℕ) → Option DebounceLine
 debounce_of pairs = given_by (values_of Time pairs) (counter_of pairs)
-    (λ values. if stands Count pairs || stands JumpUp pairs || stands JumpDown pairs then None else times_of values)
+    (λ values. if has_pair Count pairs || has_pair JumpUp pairs || has_pair JumpDown pairs then None else times_of values)
 
 -- The pairs of one number, with their defaults.
 unfoldable pub numbers_of : List (List ℕ) → Option Numbers
@@ -73,15 +73,15 @@ numbers_of pairs =
     Some (record { priority = priority; cycle = cycle; confirm = confirm; heal = heal; age = age; lamp = lamp; needs = needs })
 
 -- The one word of dtc, which must stand: six hexadecimal digits.
-unfoldable pub dtc_of : List (List ℕ) → Option ℕ
-dtc_of pairs = values_of Dtc pairs ⇒ only (hexadecimal 6)
+unfoldable pub spelled_dtc : List (List ℕ) → Option ℕ
+spelled_dtc pairs = values_of Dtc pairs ⇒ only (hexadecimal 6)
 
 -- What the words behind the word event say.
-unfoldable pub event_of : List (List ℕ) → Option EventLine
-event_of [] = None
-event_of (n ∷ pairs) =
+unfoldable pub event_line_of : List (List ℕ) → Option EventLine
+event_line_of [] = None
+event_line_of (n ∷ pairs) =
     if not (starts_with_key pairs) || any_twice pairs then None
-    else number n ⇒ λ number. dtc_of pairs ⇒ λ dtc. numbers_of pairs ⇒ λ numbers. debounce_of pairs ⇒ λ debounce.
+    else number n ⇒ λ number. spelled_dtc pairs ⇒ λ dtc. numbers_of pairs ⇒ λ numbers. debounce_of pairs ⇒ λ debounce.
     Some (record { number = number; dtc = dtc; numbers = numbers; debounce = debounce })
 
 -- A jump that an integer of 16 bits holds.

@@ -17,9 +17,9 @@ use Rattle.flt_step.specs.declared.step.Step.{Step}
 use Rattle.flt_step.specs.declared.step.Step.TheVariants as step
 use Rattle.flt_script.specs.Behind.{behind, step_of}
 use Rattle.flt_step.specs.Words.{two_digits, with_number, with_two_numbers, step_text}
-use Rattle.flt_script.specs.Causes.{causes, holds, cause_told}
+use Rattle.flt_script.specs.Causes.{causes, cause_holds, cause_told}
 use Rattle.flt_script.specs.Counts.{IsCounted}
-use Rattle.flt_script.specs.Event.{stands, event_of}
+use Rattle.flt_script.specs.Event.{has_pair, event_line_of}
 use Rattle.flt_script.specs.Line.{line_of}
 use Rattle.flt_script.specs.Load.{load_number, load_lanes}
 use Rattle.flt_script.specs.Pair.{any_twice}
@@ -47,8 +47,8 @@ abbrev pub EachHasOneOutcome : Type 0
 EachHasOneOutcome = (dids : List DidUse) (bytes : List ℕ) → HasOneOutcome dids bytes
 
 -- The text of a line is read as a step that is this one under a configuration.
-abbrev pub IsReadAs : List ℕ → Config → Step → Type 0
-IsReadAs text config step = (written : StepLine) × (line_of text ≡ Ok (line.Step written)) × (step_of config written ≡ Some step)
+abbrev pub IsLineReadAs : List ℕ → Config → Step → Type 0
+IsLineReadAs text config step = (written : StepLine) × (line_of text ≡ Ok (line.Step written)) × (step_of config written ≡ Some step)
 
 -- Each is below 256.
 abbrev pub are_bytes : List ℕ → Bool
@@ -67,7 +67,7 @@ is_held _ = true
 abbrev pub PrintedStepIsReadAgain : Type 0
 PrintedStepIsReadAgain =
     (config : Config) (step : Step) → length config.events.items ≤ EVENTS → is_step_in config step ≡ true → is_held step ≡ true
-    → IsReadAs (step_text step) config step
+    → IsLineReadAs (step_text step) config step
 
 -- What a step of a script arms is what a bench can be told.
 abbrev pub EachArmCanBeMade : Type 0
@@ -77,7 +77,7 @@ EachArmCanBeMade = (config : Config) (arm : Arm) → is_step_in config (step.Arm
 abbrev pub FirstCauseIsTold : Type 0
 FirstCauseIsTold =
     (dids : List DidUse) (past : List Line) (text : List ℕ)
-    → cause_told (line_behind dids past text) ≡ find (holds dids (behind dids past) text) causes
+    → cause_told (line_behind dids past text) ≡ find (cause_holds dids (behind dids past) text) causes
 
 -- Line 0 is told of a script that is too large, and of no other: each other fault has its line. So a configuration that
 -- wants room has its flash line, since the pages that are used without one suffice for each configuration.
@@ -107,10 +107,10 @@ pub record WrittenSettingsAreRead : Type 0 where
 -- An event line is not of its form where a pair stands twice, where dtc does not stand, and where time stands beside what
 -- belongs to a counter.
 pub record OddEventsAreRefused : Type 0 where
-  pub twice : (number : List ℕ) (pairs : List (List ℕ)) → any_twice pairs ≡ true → event_of (number ∷ pairs) ≡ None
-  pub no_dtc : (number : List ℕ) (pairs : List (List ℕ)) → stands Dtc pairs ≡ false → event_of (number ∷ pairs) ≡ None
-  pub both : (number : List ℕ) (pairs : List (List ℕ)) → stands Time pairs ≡ true
-      → (stands Count pairs || stands JumpUp pairs || stands JumpDown pairs) ≡ true → event_of (number ∷ pairs) ≡ None
+  pub twice : (number : List ℕ) (pairs : List (List ℕ)) → any_twice pairs ≡ true → event_line_of (number ∷ pairs) ≡ None
+  pub no_dtc : (number : List ℕ) (pairs : List (List ℕ)) → has_pair Dtc pairs ≡ false → event_line_of (number ∷ pairs) ≡ None
+  pub both : (number : List ℕ) (pairs : List (List ℕ)) → has_pair Time pairs ≡ true
+      → (has_pair Count pairs || has_pair JumpUp pairs || has_pair JumpDown pairs) ≡ true → event_line_of (number ∷ pairs) ≡ None
 
 -- A load of four reports, one of each lane: fail 1, prepass 6, prefail 11 and prefail 15.
 pub record LoadOfFour : Type 0 where

@@ -15,10 +15,10 @@ use Rattle.flt_script.specs.Said.{Line}
 use Rattle.flt_script.specs.Said as line
 use Rattle.flt_script.specs.declared.line.StepLine.TheVariants as step
 use Rattle.flt_script.specs.Bytes.{tester_of, bytes_of}
-use Rattle.flt_script.specs.Event.{only, event_of}
+use Rattle.flt_script.specs.Event.{only, event_line_of}
 use Rattle.flt_script.specs.Gives.{◌⇒◌, ◌>>=◌}
 use Rattle.flt_script.specs.Numeral.{number, hexadecimal}
-use Rattle.flt_script.specs.Pattern.{pattern_of}
+use Rattle.flt_script.specs.Pattern.{pattern_spelled}
 use Rattle.flt_script.specs.Text.{words_of, all_plain}
 
 -- The first words of the lines.
@@ -91,7 +91,7 @@ three_numbers _ = None
 
 -- A number and the word of a pattern.
 unfoldable pub number_and_pattern : List (List ℕ) → Option (ℕ × Pattern)
-number_and_pattern (n ∷ p ∷ []) = number n ⇒ λ after. pattern_of p ⇒ λ pattern. Some (after, pattern)
+number_and_pattern (n ∷ p ∷ []) = number n ⇒ λ after. pattern_spelled p ⇒ λ pattern. Some (after, pattern)
 number_and_pattern _ = None
 
 -- What is said, where no word is left.
@@ -128,7 +128,7 @@ line_with keyword.Tick words = option_map (λ ticks. line.Step (step.Tick ticks)
 line_with keyword.Signal words = option_map (λ numbers. line.Step (step.Signal numbers.0 numbers.1)) (two_numbers words)
 line_with keyword.Enable words = option_map (λ numbers. line.Step (step.Enable numbers.0 numbers.1)) (two_numbers words)
 line_with keyword.Request words = request_with words
-line_with keyword.Event words = option_map line.Event (event_of words)
+line_with keyword.Event words = option_map line.Event (event_line_of words)
 line_with keyword.Did words = did_with words
 line_with keyword.Config words = option_map line.Config (only number words)
 line_with keyword.Memory words = option_map line.Memory (only number words)

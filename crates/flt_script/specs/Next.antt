@@ -13,7 +13,7 @@ use Rattle.flt_script.specs.declared.keyword.Keyword.TheVariants as keyword
 use Rattle.flt_script.specs.Said.{Line}
 use Rattle.flt_script.specs.Said as line
 use Rattle.flt_step.specs.declared.step.Step.{Step}
-use Rattle.flt_script.specs.Behind.{Behind, added, in_last_lane}
+use Rattle.flt_script.specs.Behind.{Behind, added_line, in_last_lane}
 use Rattle.flt_script.specs.Gives.{◌>>=◌}
 use Rattle.flt_script.specs.Line.{line_with, line_of}
 use Rattle.flt_step.specs.Part.{parts_of}
@@ -54,7 +54,7 @@ state draft = record {
 
 -- What stands after a line, or why it is refused.
 unfoldable pub with_line : List DidUse → ℕ → Behind → Line → Result Behind LineCause
-with_line dids number b line = unless_refused (refusal dids b line) (added dids number b line)
+with_line dids number b line = unless_refused (refusal dids b line) (added_line dids number b line)
 
 -- The same of a line's text.
 unfoldable pub with_text : List DidUse → ℕ → Behind → List ℕ → Result Behind LineCause
@@ -69,9 +69,9 @@ unfoldable pub with_words : List DidUse → ℕ → Behind → Keyword → List 
 with_words dids number b keyword words = ok_or (line_with keyword words) Form >>= λ said. with_line dids number b said
 
 -- What a line's fault tells, where it is not a lack of memory.
-abbrev pub cause_of : LineFault → Option LineCause
-cause_of line_faults.Memory = None
-cause_of (line_faults.Cause cause) = Some cause
+abbrev pub line_cause_of : LineFault → Option LineCause
+line_cause_of line_faults.Memory = None
+line_cause_of (line_faults.Cause cause) = Some cause
 
 -- A cause at its line.
 abbrev pub fault_at : ℕ → Option LineCause → Option ScriptFault

@@ -6,5 +6,5 @@ use Rattle.flt_flash.specs.declared.arm.Pattern.{Pattern}
 use Rattle.flt_step.specs.Words.{pattern_text, patterns}
 
 -- The pattern that a word spells.
-unfoldable pub pattern_of : List ℕ → Option Pattern
-pattern_of word = find (λ pattern. bytes_eq word (pattern_text pattern)) patterns
+unfoldable pub pattern_spelled : List ℕ → Option Pattern
+pattern_spelled word = find (λ pattern. bytes_eq word (pattern_text pattern)) patterns

@@ -2,7 +2,7 @@
 ghost use Rattle.std.specs.Prelude.{◌≡◌, ◌∷◌, [], IfOk, MatchOption};
 ghost use Rattle.flt_script.specs.Alone.{IsAloneIn, alone_in, words_alone, step_in};
 ghost use Rattle.flt_script.specs.Gives.{IsAsDefined};
-ghost use Rattle.flt_script.specs.Next.{cause_of};
+ghost use Rattle.flt_script.specs.Next.{line_cause_of};
 ghost use Rattle.flt_script.specs.Text.{lines_of};
 
 use crate::fault::{LineCause, LineFault};
@@ -49,7 +49,7 @@ fn alone_with(
     words: Words<'_>,
     config: &Config,
 ) -> Result<AloneLine, LineFault>
-    ensures said { IsAsDefined (λ said. said) cause_of result (words_alone config.now keyword words.entry) }
+    ensures said { IsAsDefined (λ said. said) line_cause_of result (words_alone config.now keyword words.entry) }
     ensures in_range { IfOk result (IsAloneIn config.now) }
 {
     match keyword {
@@ -89,7 +89,7 @@ fn alone_with(
 /// refused as one behind the first step of a script is, and one of a block of lanes as one that may not stand there. `Memory` says nothing
 /// of the line.
 pub fn read_alone(alloc: Global, text: &[u8], config: &Config) -> Result<AloneLine, LineFault>
-    ensures said { IsAsDefined (λ said. said) cause_of result (alone_in config.now text.now) }
+    ensures said { IsAsDefined (λ said. said) line_cause_of result (alone_in config.now text.now) }
     ensures in_range { IfOk result (IsAloneIn config.now) }
 {
     match first_word(TextLine::new(text))? {

@@ -1,7 +1,7 @@
 ghost use Rattle.std.specs.Prelude.{◌≡◌, IfSome, IsTrue};
 ghost use Rattle.flt_script.specs.Behind.{arm_of};
 ghost use Rattle.flt_step.specs.Words.{pattern_text};
-ghost use Rattle.flt_script.specs.Pattern.{pattern_of};
+ghost use Rattle.flt_script.specs.Pattern.{pattern_spelled};
 ghost use Rattle.flt_step.specs.Step.{is_arm_in};
 
 use flt_flash::{Arm, Pattern};
@@ -59,9 +59,9 @@ impl ArmLine {
 const PATTERNS: [Pattern; 4] = [Pattern::Nothing, Pattern::All, Pattern::Tail, Pattern::Odd];
 
 /// The pattern that a word spells.
-#[tactic(auto, unfolding(crate::specs::Pattern::pattern_of))]
+#[tactic(auto, unfolding(crate::specs::Pattern::pattern_spelled))]
 pub(crate) fn read_pattern(word: &[u8]) -> Option<Pattern>
-    ensures { result ≡ pattern_of word.now }
+    ensures { result ≡ pattern_spelled word.now }
 {
     PATTERNS
         .iter()

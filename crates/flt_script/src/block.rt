@@ -23,7 +23,7 @@ pub(crate) struct OpenBlock {
 impl OpenBlock {
     ghost use Rattle.std.specs.Prelude.{[], ◌∷◌, ◌++◌, OnOk};
     ghost use Rattle.flt_script.specs.Gives.{IsAsDefined};
-    ghost use Rattle.flt_script.specs.Next.{cause_of, with_lane_step};
+    ghost use Rattle.flt_script.specs.Next.{line_cause_of, with_lane_step};
 
     /// No lane.
     pub(crate) fn new(alloc: Global) -> OpenBlock
@@ -38,7 +38,7 @@ impl OpenBlock {
 
     /// Adds a step to the last lane.
     pub(crate) fn add_step(&mut self, step: Step) -> Result<(), LineFault>
-        ensures { IsAsDefined (λ _. map (λ lane. lane.items) self.new.lanes.items) cause_of result
+        ensures { IsAsDefined (λ _. map (λ lane. lane.items) self.new.lanes.items) line_cause_of result
             (with_lane_step step (map (λ lane. lane.items) self.old.lanes.items)) }
     {
         let is_store_step = step.is_store_step();

@@ -1,7 +1,7 @@
 ghost use Rattle.std.specs.Prelude.{◌≡◌, ◌==◌, option_map};
 ghost use Rattle.flt_script.specs.Text.{seen};
 ghost use Rattle.flt_script.specs.Numeral.{number, signed, up_to};
-ghost use Rattle.flt_script.specs.Event.{only, stands, number_or, jump_of, threshold_words, thresholds_of, times_of, counter_of, debounce_of, numbers_of, dtc_of, event_of, jump_held};
+ghost use Rattle.flt_script.specs.Event.{only, has_pair, number_or, jump_of, threshold_words, thresholds_of, times_of, counter_of, debounce_of, numbers_of, spelled_dtc, event_line_of, jump_held};
 
 use crate::numeral::{
     held_byte, held_negative, held_positive, held_word, read_hexadecimal, read_number, read_signed,
@@ -73,7 +73,7 @@ fn pair_signed(words: &[&[u8]]) -> Option<i64>
 }
 
 fn stands(key: Key, pairs: &[&[u8]]) -> bool
-    ensures { result ≡ stands key (seen pairs.now) }
+    ensures { result ≡ has_pair key (seen pairs.now) }
 {
     values_of(key, pairs).is_some()
 }
@@ -180,9 +180,9 @@ fn numbers_of(pairs: &[&[u8]]) -> Option<Numbers>
     })
 }
 
-#[tactic(auto, unfolding(crate::specs::Event::dtc_of))]
+#[tactic(auto, unfolding(crate::specs::Event::spelled_dtc))]
 fn dtc_of(pairs: &[&[u8]]) -> Option<u32>
-    ensures { result ≡ dtc_of (seen pairs.now) }
+    ensures { result ≡ spelled_dtc (seen pairs.now) }
 {
     match values_of(Key::Dtc, pairs)? {
         [word] => Some(read_hexadecimal(6, word)? as u32),
@@ -191,9 +191,9 @@ fn dtc_of(pairs: &[&[u8]]) -> Option<u32>
 }
 
 /// What stands behind the word event.
-#[tactic(auto, unfolding(crate::specs::Event::event_of))]
+#[tactic(auto, unfolding(crate::specs::Event::event_line_of))]
 pub(crate) fn event_of(words: &[&[u8]]) -> Option<EventLine>
-    ensures { result ≡ event_of (seen words.now) }
+    ensures { result ≡ event_line_of (seen words.now) }
 {
     let (number, pairs) = words.split_first()?;
     if !starts_with_key(pairs) || any_twice(pairs) {

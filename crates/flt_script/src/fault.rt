@@ -126,12 +126,12 @@ pub enum LineFault {
 }
 
 impl LineFault {
-    ghost use Rattle.flt_script.specs.Next.{cause_of, fault_at};
+    ghost use Rattle.flt_script.specs.Next.{line_cause_of, fault_at};
     ghost use Rattle.flt_script.specs.Script.{fault_of};
 
     /// The fault of the script whose line has this one.
     pub(crate) fn at_line(self, line: u32) -> ParseFault
-        ensures { fault_of result ≡ fault_at line (cause_of self) }
+        ensures { fault_of result ≡ fault_at line (line_cause_of self) }
     {
         match self {
             LineFault::Memory => ParseFault::Memory,

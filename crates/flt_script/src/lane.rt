@@ -1,7 +1,7 @@
 ghost use Rattle.std.specs.Prelude.{◌≡◌, ◌&&◌, ◌||◌, OnErr, map, not};
 ghost use Rattle.flt_script.specs.Behind.{has_earlier_store};
 ghost use Rattle.flt_script.specs.Gives.{IsAsDefined};
-ghost use Rattle.flt_script.specs.Next.{cause_of, with_lane_step};
+ghost use Rattle.flt_script.specs.Next.{line_cause_of, with_lane_step};
 ghost use Rattle.flt_step.specs.Step.{is_lane_step, is_store_step};
 
 use crate::fault::{LineCause, LineFault};
@@ -14,7 +14,7 @@ pub(crate) fn add_lane_step(
     step: Step,
 ) -> Result<(), LineFault>
     requires { used_earlier ≡ has_earlier_store (map (λ lane. lane.items) lanes.old.items) }
-    ensures given { IsAsDefined (λ _. map (λ lane. lane.items) lanes.new.items) cause_of result (with_lane_step step (map (λ lane. lane.items) lanes.old.items)) }
+    ensures given { IsAsDefined (λ _. map (λ lane. lane.items) lanes.new.items) line_cause_of result (with_lane_step step (map (λ lane. lane.items) lanes.old.items)) }
     ensures kept { OnErr result (map (λ lane. lane.items) lanes.new.items ≡ map (λ lane. lane.items) lanes.old.items) }
 {
     let Some(lane) = lanes.last_mut() else {

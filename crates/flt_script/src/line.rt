@@ -4,7 +4,7 @@ ghost use Rattle.flt_script.specs.Said.{Line};
 ghost use Rattle.flt_script.specs.Said as line;
 ghost use Rattle.flt_script.specs.Behind.{step_of};
 ghost use Rattle.flt_script.specs.Bytes.{tester_of};
-ghost use Rattle.flt_script.specs.Event.{only, event_of};
+ghost use Rattle.flt_script.specs.Event.{only, event_line_of};
 ghost use Rattle.flt_script.specs.Line.{two_numbers, three_numbers, number_and_pattern, alone, did_with, request_with, post_with, line_with, line_of};
 ghost use Rattle.flt_script.specs.Next.{begins_step, said_behind};
 ghost use Rattle.flt_script.specs.Numeral.{number};
@@ -344,7 +344,7 @@ pub(crate) fn step_with(keyword: Keyword, words: Words<'_>) -> Option<StepLine>
 
 /// What the words behind the word event say.
 pub(crate) fn event_with(alloc: Global, words: Words<'_>) -> Result<Option<EventLine>, AllocError>
-    ensures { IfOk result (λ event. event ≡ event_of words.entry) }
+    ensures { IfOk result (λ event. event ≡ event_line_of words.entry) }
 {
     let words = words.collect::<Vec<&[u8]>>(alloc)?;
     Ok(event_of(&words))

@@ -1,7 +1,7 @@
 ghost use Rattle.std.specs.Prelude.{◌+◌, ◌<◌, ◌≤◌, IsTrue, length, sum_by, vec_len};
 ghost use Rattle.std.specs.List.{list_all};
 ghost use Rattle.flt_step.specs.Part.{parts_of};
-ghost use Rattle.flt_step.specs.Step.{are_parts_in, steps_of, lanes_of, arms_of, drains_of};
+ghost use Rattle.flt_step.specs.Step.{are_parts_in, steps_of_parts, lanes_of_parts, arms_of_parts, drains_of_parts};
 
 use flt_config::ValidConfig;
 use flt_step::Part;
@@ -19,13 +19,13 @@ pub struct Script {
     /// `mute`, and at most one of which has a `save`, `drain` or `get`.
     pub ghost in_range: { IsTrue (list_all (λ life. are_parts_in config (parts_of life.items)) lives.items) },
     /// There are at most 65,536 steps, those in lanes among them.
-    pub ghost few: { sum_by (λ life. steps_of (parts_of life.items)) lives.items ≤ 65536 },
+    pub ghost few: { sum_by (λ life. steps_of_parts (parts_of life.items)) lives.items ≤ 65536 },
     /// At most 64 of them are `cut`, `fault` or `mute`.
-    pub ghost few_arms: { sum_by (λ life. arms_of (parts_of life.items)) lives.items ≤ 64 },
+    pub ghost few_arms: { sum_by (λ life. arms_of_parts (parts_of life.items)) lives.items ≤ 64 },
     /// At most 1024 of them are `drain`, those in lanes among them.
-    pub ghost few_drains: { sum_by (λ life. drains_of (parts_of life.items)) lives.items ≤ 1024 },
+    pub ghost few_drains: { sum_by (λ life. drains_of_parts (parts_of life.items)) lives.items ≤ 1024 },
     /// The parts and the lanes of the blocks are at most as many as a script has lines.
-    pub ghost few_parts: { sum_by (λ life. length life.items + lanes_of (parts_of life.items)) lives.items ≤ 1048577 },
+    pub ghost few_parts: { sum_by (λ life. length life.items + lanes_of_parts (parts_of life.items)) lives.items ≤ 1048577 },
     pub ghost some_life: { 0 < vec_len lives },
     pub ghost few_lives: { vec_len lives ≤ 256 },
 }

@@ -7,7 +7,7 @@ use Rattle.flt_code.specs.declared.words.Word.TheVariants.{Active}
 use Rattle.flt_sector_model.specs.Log.{log}
 use Rattle.flt_sector_model.specs.Gates.{gates_of}
 use Rattle.flt_sector_model.specs.Blocks.{Current, greater_of, current_by, current, place_in, fault_by, first_fault}
-use Rattle.flt_sector_model.specs.Damage.{HasWrongStart, HasWrongActive, IsValidSector, IsCurrent, IsWrongAt, Look, start_gate, active_gate, both_numbers, log_page, step_of, place_of, HasDamage, HasFirstDamage, HasSoundGates}
+use Rattle.flt_sector_model.specs.Damage.{HasWrongStart, HasWrongActive, IsValidSector, IsCurrent, IsWrongAt, Look, start_gate, active_gate, both_numbers, log_page, mount_step, place_of, HasDamage, HasFirstDamage, HasSoundGates}
 use Rattle.flt_sector_model.specs.Laws.{FirstFaultIsTold, NoFaultIsTold, GreaterIsCurrent, NoneIsCurrent}
 use Rattle.flt_sector_model.proofs.Items.{says_one}
 use Rattle.flt_sector_model.proofs.GateCases.{GatesAre, start_wrong, active_wrong, valid, not_valid, gates_are}
@@ -22,9 +22,9 @@ module _ (used : ℕ) (numbers : List ℕ) (image : List (List (List ℕ))) wher
   Wrong = HasDamage used numbers image
 
   -- No gate below a rank is wrong.
-  none_below : (bound : ℕ) → bound ≤ 5 → ((sector : ℕ) → sector < 2 → step_of (start_gate sector) < bound → HasWrongStart used (sector_at image sector) → ⊥)
-      → ((sector : ℕ) → sector < 2 → step_of (active_gate sector) < bound → HasWrongActive used (sector_at image sector) → ⊥)
-      → (4 < bound → Wrong both_numbers → ⊥) → (look : Look) → step_of look < bound → Wrong look → ⊥
+  none_below : (bound : ℕ) → bound ≤ 5 → ((sector : ℕ) → sector < 2 → mount_step (start_gate sector) < bound → HasWrongStart used (sector_at image sector) → ⊥)
+      → ((sector : ℕ) → sector < 2 → mount_step (active_gate sector) < bound → HasWrongActive used (sector_at image sector) → ⊥)
+      → (4 < bound → Wrong both_numbers → ⊥) → (look : Look) → mount_step look < bound → Wrong look → ⊥
   none_below bound most starts actives both (start_gate sector) below is = starts sector is.0 below is.1
   none_below bound most starts actives both (active_gate sector) below is = actives sector is.0 below is.1
   none_below bound most starts actives both both_numbers below is = both below is
@@ -40,7 +40,7 @@ module _ (used : ℕ) (numbers : List ℕ) (image : List (List (List ℕ))) wher
 
   -- What the gates of both sectors come to.
   pub data CurrentIs (found : Result (Option Current) (ℕ × ℕ)) : Type 0 where
-    gates_wrong : (look : Look) → step_of look ≤ 4 → HasFirstDamage used numbers image look → found ≡ Err (place_of look) → CurrentIs found
+    gates_wrong : (look : Look) → mount_step look ≤ 4 → HasFirstDamage used numbers image look → found ≡ Err (place_of look) → CurrentIs found
     is_current : HasSoundGates used numbers image → (at : Current) → IsCurrent used image at.sector at.sequence → found ≡ Ok (Some at) → CurrentIs found
     is_none : HasSoundGates used numbers image → ((sector sequence : ℕ) → sector < 2 → IsValidSector used (sector_at image sector) sequence → ⊥) → found ≡ Ok None → CurrentIs found
 
@@ -191,7 +191,7 @@ module _ (used : ℕ) (numbers : List ℕ) (image : List (List (List ℕ))) wher
     by_log sound at is None told = has_none (λ look. only_log sound (λ l. Unit {0}) (λ sector page _ wrong. (let there = told_there at is sector page wrong in cc)) look tt) refl
     by_log sound at is (Some page) told =
         has_fault (log_page at.sector page)
-        (record { is = ((at.sequence, is), wrong_where_told used numbers (sector_at image at.sector) least page told); first = only_log sound (λ look. step_of look < 5 + page) earlier }) refl
+        (record { is = ((at.sequence, is), wrong_where_told used numbers (sector_at image at.sector) least page told); first = only_log sound (λ look. mount_step look < 5 + page) earlier }) refl
       where
         earlier : (sector other : ℕ) → 5 + other < 5 + page → Wrong (log_page sector other) → ⊥
         earlier sector other below wrong = (let there = told_there at is sector other wrong in let same : other ≡ page = cc in omega (arith, below, same))
@@ -207,7 +207,7 @@ module _ (used : ℕ) (numbers : List ℕ) (image : List (List (List ℕ))) wher
     first_is = by_current (current used image) current_is
 
     -- Two faults of one rank are reported at one place.
-    same_place : (first second : Look) → step_of first ≡ step_of second → Wrong first → Wrong second → place_of first ≡ place_of second
+    same_place : (first second : Look) → mount_step first ≡ mount_step second → Wrong first → Wrong second → place_of first ≡ place_of second
     same_place (start_gate s) (start_gate t) rank one two = let same : s ≡ t = omega (arith, rank) in ap (λ (n : ℕ). (n, 0)) same
     same_place (active_gate s) (active_gate t) rank one two = let same : s ≡ t = omega (arith, rank) in ap (λ (n : ℕ). (n, 1)) same
     same_place both_numbers both_numbers rank one two = refl
@@ -231,7 +231,7 @@ module _ (used : ℕ) (numbers : List ℕ) (image : List (List (List ℕ))) wher
     -- The first fault is reported.
     pub told_first : (look : Look) → HasFirstDamage used numbers image look → first_fault used numbers image ≡ Some (place_of look)
     told_first look is = elim first_is [
-      | has_fault other also told ↦ told ∙ ap Some (elim (cases_order (step_of look) (step_of other)) [
+      | has_fault other also told ↦ told ∙ ap Some (elim (cases_order (mount_step look) (mount_step other)) [
         | inl same ↦ sym (same_place look other same is.is also.is)
         | inr (inl less) ↦ absurd (also.first look less is.is)
         | inr (inr more) ↦ absurd (is.first other more also.is)

@@ -97,11 +97,11 @@ pub data Look : Type 0 where
   log_page : ℕ → ℕ → Look
 
 -- The step of the mount at which it is looked at.
-abbrev pub step_of : Look → ℕ
-step_of (start_gate sector) = 2 * sector
-step_of (active_gate sector) = 2 * sector + 1
-step_of both_numbers = 4
-step_of (log_page sector page) = 5 + page
+abbrev pub mount_step : Look → ℕ
+mount_step (start_gate sector) = 2 * sector
+mount_step (active_gate sector) = 2 * sector + 1
+mount_step both_numbers = 4
+mount_step (log_page sector page) = 5 + page
 
 -- The sector and the page at which a fault found there is reported.
 abbrev pub place_of : Look → ℕ × ℕ
@@ -122,8 +122,8 @@ HasDamage used numbers image (log_page sector page) =
 -- An image is damaged there, and nowhere that a mount looks earlier.
 pub record HasFirstDamage (used : ℕ) (numbers : List ℕ) (image : List (List (List ℕ))) (look : Look) : Type 0 where
   pub is : HasDamage used numbers image look
-  pub first : (earlier : Look) → step_of earlier < step_of look → HasDamage used numbers image earlier → ⊥
+  pub first : (earlier : Look) → mount_step earlier < mount_step look → HasDamage used numbers image earlier → ⊥
 
 -- No gate is wrong, and the two sectors do not have one number.
 abbrev pub HasSoundGates : ℕ → List ℕ → List (List (List ℕ)) → Type 0
-HasSoundGates used numbers image = (look : Look) → step_of look ≤ 4 → HasDamage used numbers image look → ⊥
+HasSoundGates used numbers image = (look : Look) → mount_step look ≤ 4 → HasDamage used numbers image look → ⊥

@@ -43,32 +43,32 @@ pub record EveryItem : Type 0 where
 
 -- A sector of 8 pages with these two as its first.
 abbrev pub gated : List ℕ → List ℕ → List (List ℕ)
-gated start active = sector_of 8 (start ∷ active ∷ [])
+gated start active_page = sector_of 8 (start ∷ active_page ∷ [])
 
 -- A start gate of 8 pages, and an active gate.
 abbrev pub start : ℕ → List ℕ
 start sequence = says (Start sequence 8)
 
-abbrev pub active : ℕ → List ℕ
-active sequence = says (Active sequence)
+abbrev pub active_page : ℕ → List ℕ
+active_page sequence = says (Active sequence)
 
 -- All four gates are wrong, and are corrected one after the other; then both sectors have one number. A sector with one gate is not valid, and not a fault.
 abbrev pub GatesInOrder : Type 0
 GatesInOrder =
     TellsFaults 8 blocks
     (image_of (gated spoiled spoiled) (gated spoiled spoiled) ⇒ Some (0, 0)
-    ∷ image_of (gated (active 5) spoiled) (gated spoiled spoiled) ⇒ Some (0, 0)
+    ∷ image_of (gated (active_page 5) spoiled) (gated spoiled spoiled) ⇒ Some (0, 0)
     ∷ image_of (gated (says (Start 5 9)) spoiled) (gated spoiled spoiled) ⇒ Some (0, 0)
     ∷ image_of (gated (start 5) spoiled) (gated spoiled spoiled) ⇒ Some (0, 1)
     ∷ image_of (gated (start 5) (start 5)) (gated spoiled spoiled) ⇒ Some (0, 1)
-    ∷ image_of (gated (start 5) (active 4)) (gated spoiled spoiled) ⇒ Some (0, 1)
-    ∷ image_of (gated (start 5) (active 5)) (gated spoiled spoiled) ⇒ Some (1, 0)
-    ∷ image_of (gated (start 5) (active 5)) (gated (says (Gate 8 0)) spoiled) ⇒ Some (1, 0)
-    ∷ image_of (gated (start 5) (active 5)) (gated (start 5) spoiled) ⇒ Some (1, 1)
-    ∷ image_of (gated (start 5) (active 5)) (gated (start 5) (says (Head 8 0 false 1))) ⇒ Some (1, 1)
-    ∷ image_of (gated (start 5) (active 5)) (gated (start 5) (active 5)) ⇒ Some (1, 0)
-    ∷ image_of (gated (start 5) (active 5)) (gated (start 5) torn) ⇒ None
-    ∷ image_of (gated blank_page (active 5)) (gated torn blank_page) ⇒ None
+    ∷ image_of (gated (start 5) (active_page 4)) (gated spoiled spoiled) ⇒ Some (0, 1)
+    ∷ image_of (gated (start 5) (active_page 5)) (gated spoiled spoiled) ⇒ Some (1, 0)
+    ∷ image_of (gated (start 5) (active_page 5)) (gated (says (Gate 8 0)) spoiled) ⇒ Some (1, 0)
+    ∷ image_of (gated (start 5) (active_page 5)) (gated (start 5) spoiled) ⇒ Some (1, 1)
+    ∷ image_of (gated (start 5) (active_page 5)) (gated (start 5) (says (Head 8 0 false 1))) ⇒ Some (1, 1)
+    ∷ image_of (gated (start 5) (active_page 5)) (gated (start 5) (active_page 5)) ⇒ Some (1, 0)
+    ∷ image_of (gated (start 5) (active_page 5)) (gated (start 5) torn) ⇒ None
+    ∷ image_of (gated blank_page (active_page 5)) (gated torn blank_page) ⇒ None
     ∷ [])
 
 -- ---- the faults of a log

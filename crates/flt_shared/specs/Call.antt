@@ -20,8 +20,8 @@ use Rattle.flt_turn.specs.Call as turn
 use Rattle.flt_turn.specs.Seats.{Seated}
 
 -- The calls of a lock in their order, each with the number of its seat.
-abbrev pub Journal : Type 0
-Journal = List (Entry Op)
+abbrev pub CallJournal : Type 0
+CallJournal = List (Entry Op)
 
 -- What is known of a seat.
 abbrev pub Seat : Type 0

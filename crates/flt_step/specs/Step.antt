@@ -71,8 +71,8 @@ steps_of_part (inl step) = 1
 steps_of_part (inr lanes) = sum_by length lanes
 
 -- How many steps parts have.
-abbrev pub steps_of : List (PartOf Step) → ℕ
-steps_of parts = sum_by steps_of_part parts
+abbrev pub steps_of_parts : List (PartOf Step) → ℕ
+steps_of_parts parts = sum_by steps_of_part parts
 
 -- How many lanes a part has.
 abbrev pub lanes_of_part : PartOf Step → ℕ
@@ -80,22 +80,22 @@ lanes_of_part (inl step) = 0
 lanes_of_part (inr lanes) = length lanes
 
 -- How many lanes parts have.
-abbrev pub lanes_of : List (PartOf Step) → ℕ
-lanes_of parts = sum_by lanes_of_part parts
+abbrev pub lanes_of_parts : List (PartOf Step) → ℕ
+lanes_of_parts parts = sum_by lanes_of_part parts
 
 -- How many of cut, fault and mute a step is: one or none.
-abbrev pub arm_count : Step → ℕ
-arm_count (step.Arming arm) = 1
-arm_count _ = 0
+abbrev pub arms_of_step : Step → ℕ
+arms_of_step (step.Arming arm) = 1
+arms_of_step _ = 0
 
 -- How many of them a part has; in lanes they do not stand.
 abbrev pub arms_of_part : PartOf Step → ℕ
-arms_of_part (inl step) = arm_count step
+arms_of_part (inl step) = arms_of_step step
 arms_of_part (inr lanes) = 0
 
 -- How many of them parts have.
-abbrev pub arms_of : List (PartOf Step) → ℕ
-arms_of parts = sum_by arms_of_part parts
+abbrev pub arms_of_parts : List (PartOf Step) → ℕ
+arms_of_parts parts = sum_by arms_of_part parts
 
 -- How many drains a step is: one or none.
 abbrev pub drain_count : Step → ℕ
@@ -112,5 +112,5 @@ drains_of_part (inl step) = drain_count step
 drains_of_part (inr lanes) = sum_by drains_of_lane lanes
 
 -- How many parts have.
-abbrev pub drains_of : List (PartOf Step) → ℕ
-drains_of parts = sum_by drains_of_part parts
+abbrev pub drains_of_parts : List (PartOf Step) → ℕ
+drains_of_parts parts = sum_by drains_of_part parts

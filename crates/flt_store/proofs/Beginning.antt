@@ -23,7 +23,7 @@ use Rattle.flt_store_model.proofs.ImageLaws.{held_stands, spare_stands}
 use Rattle.flt_restore.specs.declared.commit.CommitCopy.{CommitCopy}
 use Rattle.flt_restore.specs.Restored.{HasBytes, IsJudged, IsCopy, IsRestored, generation}
 use Rattle.flt_store.specs.Started.{HasMark, IsStarted}
-use Rattle.flt_store.specs.Cause.{Writes}
+use Rattle.flt_store.specs.Cause.{StoreWrites}
 use Rattle.flt_store.specs.Dark.{IsCommitUnmended}
 use Rattle.flt_store.specs.Spent.{IsCommitStuck}
 use Rattle.flt_store.specs.Start.{Begins, IsFoundIn}
@@ -108,7 +108,7 @@ module _ {B : Type 0} {b : Ghosts B} {c : Config} {before middle after : Nvm B b
   pub begun_applications : SameApplications (driver_of before).value (driver_of after).value
   begun_applications block below = mended_applications mends block below ∙ applications_marked begun.tries block below
 
-  pub begun_writes : Writes (driver_of before) (driver_of after) result
+  pub begun_writes : StoreWrites (driver_of before) (driver_of after) result
   begun_writes = writes_on (driver_of before) (driver_of middle) (driver_of after) result begun.tries.follows (mended_writes mends)
 
   pub begun_unmended : IsErrOf result Flash → IsCommitUnmended (driver_of before) (driver_of after)

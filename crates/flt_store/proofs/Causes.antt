@@ -6,22 +6,22 @@ use Rattle.std.proofs.lemmas.Bool.{cases_eq}
 use Rattle.std.proofs.lemmas.List.Sums.{sum_by-le-sum_by}
 use Rattle.flt_flash.specs.Content.{Content, bytes}
 use Rattle.flt_flash.specs.Blocks.{BlocksState, pages_of, record_pages, IsFull}
-use Rattle.flt_flash.specs.Calls.{Calls, Follows, ReadsAlone}
+use Rattle.flt_flash.specs.Calls.{BlockCalls, Follows, ReadsAlone}
 use Rattle.flt_flash.specs.declared.blocks.BlockFault.{BlockFault}
 use Rattle.flt_flash.specs.declared.blocks.BlockFault.TheVariants.{Flash, Full, SequenceSpent, Damaged}
 use Rattle.flt_flash.proofs.CallsInARow.{no_call, more_calls}
 use Rattle.flt_config.specs.declared.config.Config.{Config}
-use Rattle.flt_nvm.specs.Table.{number_of}
+use Rattle.flt_nvm.specs.Table.{driver_number}
 use Rattle.flt_nvm.specs.Leaves.{FlashTakesThree, Gives, GivesBoth}
 use Rattle.flt_store_model.specs.Layout.{numbers, commit_id, first_commit, second_commit}
 use Rattle.flt_store_model.specs.Excess.{own_pages, excess, IsBorne}
 use Rattle.flt_store_model.specs.Laws.{IsGiven}
 use Rattle.flt_store_model.proofs.Pages.{borne_has_room}
 use Rattle.flt_store_model.specs.Form.{commit_length}
-use Rattle.flt_store.specs.Cause.{FailsThrice, HasRoom, IsWithinOwn, Writes}
+use Rattle.flt_store.specs.Cause.{FailsThrice, HasRoom, IsWithinOwn, StoreWrites}
 
 -- Calls behind which Ok was answered, no write, and some writes and then more.
-pub calls_done : {T : Type 0} (before after : BlocksState) (value : T) → Follows before after → Writes {T = T} before after (Ok value)
+pub calls_done : {T : Type 0} (before after : BlocksState) (value : T) → Follows before after → StoreWrites {T = T} before after (Ok value)
 calls_done before after value follows = record {
   follows = follows;
   flash = λ told. absurd (cc told);
@@ -30,10 +30,10 @@ calls_done before after value follows = record {
   mounted = λ has sector page told. absurd (cc told);
 }
 
-pub no_write : (state : BlocksState) → Writes state state (Ok (tt {0}))
+pub no_write : (state : BlocksState) → StoreWrites state state (Ok (tt {0}))
 no_write state = calls_done state state tt (no_call state)
 
-pub writes_on : {T : Type 0} (before middle after : BlocksState) (result : Result T BlockFault) → Follows before middle → Writes middle after result → Writes before after result
+pub writes_on : {T : Type 0} (before middle after : BlocksState) (result : Result T BlockFault) → Follows before middle → StoreWrites middle after result → StoreWrites before after result
 writes_on before middle after result first then_ = record {
   follows = more_calls before middle after first then_.follows;
   flash = λ told. (let rose = then_.flash told in let counts = first.counts in omega (arith, rose, counts));
@@ -42,11 +42,11 @@ writes_on before middle after result first then_ = record {
   mounted = λ has. then_.mounted (first.once_mounted has);
 }
 
-module _ (before after : BlocksState) (result : Result (Unit {0}) BlockFault) (calls : Calls before after result) (three : FlashTakesThree before after result) where
+module _ (before after : BlocksState) (result : Result (Unit {0}) BlockFault) (calls : BlockCalls before after result) (three : FlashTakesThree before after result) where
   not_mounted : IsTrue before.has_mounted → (sector page : ℕ) → IsErrOf result (Damaged sector page) → ⊥
   not_mounted has sector page told = let none = (calls.damaged sector page told).1 in absurd (cc (has, none))
 
-  pub one_write : (number : ℕ) (asked : Content) (size : ℕ) → size ≤ 96 → Gives before after number asked size result → Writes before after result
+  pub one_write : (number : ℕ) (asked : Content) (size : ℕ) → size ≤ 96 → Gives before after number asked size result → StoreWrites before after result
   one_write number asked size short gives = record {
     follows = calls.follows;
     flash = three;
@@ -55,17 +55,17 @@ module _ (before after : BlocksState) (result : Result (Unit {0}) BlockFault) (c
     mounted = not_mounted;
   }
 
-  pub both_written : (id : ℕ) (asked : Content) (size : ℕ) → size ≤ 96 → GivesBoth before after id asked size result → Writes before after result
+  pub both_written : (id : ℕ) (asked : Content) (size : ℕ) → size ≤ 96 → GivesBoth before after id asked size result → StoreWrites before after result
   both_written id asked size short gives = record {
     follows = calls.follows;
     flash = three;
     full = λ live needed told. (size, short, gives.full live needed told);
-    stuck = λ told. ⊎_elim (λ first. (number_of id 0, size, short, first)) (λ second. (number_of id 1, size, short, second)) (gives.spent told);
+    stuck = λ told. ⊎_elim (λ first. (driver_number id 0, size, short, first)) (λ second. (driver_number id 1, size, short, second)) (gives.spent told);
     mounted = not_mounted;
   }
 
 -- A read, which is failed by the flash or by a fault of the image alone.
-pub one_read : {T : Type 0} (before after : BlocksState) (result : Result T BlockFault) → ReadsAlone before after result → FlashTakesThree before after result → Writes before after result
+pub one_read : {T : Type 0} (before after : BlocksState) (result : Result T BlockFault) → ReadsAlone before after result → FlashTakesThree before after result → StoreWrites before after result
 one_read before after result reads three = record {
   follows = reads.calls.follows;
   flash = three;
@@ -75,7 +75,7 @@ one_read before after result reads three = record {
 }
 
 -- The answer of another type has the same causes.
-pub writes_as : {S T : Type 0} (before after : BlocksState) (fault : BlockFault) → Writes {T = S} before after (Err fault) → Writes {T = T} before after (Err fault)
+pub writes_as : {S T : Type 0} (before after : BlocksState) (fault : BlockFault) → StoreWrites {T = S} before after (Err fault) → StoreWrites {T = T} before after (Err fault)
 writes_as {S} {T} before after fault writes = record {
   follows = writes.follows;
   flash = λ told. writes.flash (again Flash told);
@@ -89,12 +89,12 @@ writes_as {S} {T} before after fault writes = record {
 
 -- An answer that hands on the fault of the writes, and one behind writes that answered Ok.
 pub writes_handed : {S T : Type 0} (before after : BlocksState) (result : Result S BlockFault) (answer : Result T BlockFault) (fault : BlockFault) → result ≡ Err fault → IsErrAnd answer (λ e. e ≡ fault)
-    → Writes before after result → Writes before after answer
+    → StoreWrites before after result → StoreWrites before after answer
 writes_handed before after result (Ok value) fault was made writes = absurd made
 writes_handed {S} {T} before after result (Err told) fault was made writes =
-    writes_as {S = S} {T = T} before after told (subst (λ (r : Result S BlockFault). Writes before after r) (was ∙ ap Err (sym made)) writes)
+    writes_as {S = S} {T = T} before after told (subst (λ (r : Result S BlockFault). StoreWrites before after r) (was ∙ ap Err (sym made)) writes)
 
-pub writes_done : {S T : Type 0} (before after : BlocksState) (result : Result S BlockFault) (value : T) → Writes before after result → Writes {T = T} before after (Ok value)
+pub writes_done : {S T : Type 0} (before after : BlocksState) (result : Result S BlockFault) (value : T) → StoreWrites before after result → StoreWrites {T = T} before after (Ok value)
 writes_done before after result value writes = calls_done before after value writes.follows
 
 -- What stands and what is written stays within the bounds.
@@ -134,7 +134,7 @@ never_full c given before after all room follows borne size live needed short fu
         omega (arith, bound, total, live_is, full.needed_is, past, pages, fits)
 
 -- A write that failed, and not for lack of a sequence number, was failed by the flash.
-pub was_flash : {T : Type 0} (c : Config) → IsGiven c → (before after : BlocksState) (fault : BlockFault) → Writes {T = T} before after (Err fault) → before.numbers ≡ numbers → HasRoom c before.room
+pub was_flash : {T : Type 0} (c : Config) → IsGiven c → (before after : BlocksState) (fault : BlockFault) → StoreWrites {T = T} before after (Err fault) → before.numbers ≡ numbers → HasRoom c before.room
     → IsTrue before.has_mounted → IsBorne c after.value → (fault ≡ SequenceSpent → ⊥) → fault ≡ Flash
 was_flash {T} c given before after Flash writes all room has borne other = refl
 was_flash {T} c given before after (Full live needed) writes all room has borne other =
@@ -143,7 +143,7 @@ was_flash {T} c given before after SequenceSpent writes all room has borne other
 was_flash {T} c given before after (Damaged sector page) writes all room has borne other = absurd (writes.mounted has sector page refl)
 
 -- So every fault of the writes is one of the flash, or of the last sequence number.
-pub resolved : {T : Type 0} (c : Config) → IsGiven c → (before after : BlocksState) (fault : BlockFault) → Writes {T = T} before after (Err fault) → before.numbers ≡ numbers → HasRoom c before.room
+pub resolved : {T : Type 0} (c : Config) → IsGiven c → (before after : BlocksState) (fault : BlockFault) → StoreWrites {T = T} before after (Err fault) → before.numbers ≡ numbers → HasRoom c before.room
     → IsTrue before.has_mounted → IsBorne c after.value → (fault ≡ SequenceSpent → ⊥) → FailsThrice before after
 resolved {T} c given before after fault writes all room has borne other = writes.flash (ap Err (was_flash {T = T} c given before after fault writes all room has borne other))
 

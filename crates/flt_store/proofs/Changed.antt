@@ -10,7 +10,7 @@ use Rattle.flt_flash.specs.Blocks.{record_pages}
 use Rattle.flt_config.specs.declared.config.Config.{Config}
 use Rattle.flt_config.specs.declared.persist.Persist.{Persist}
 use Rattle.flt_store_model.specs.declared.commit.Commit.{Commit}
-use Rattle.flt_store_model.specs.Layout.{first_part, parts, is_used, index_in, part_of}
+use Rattle.flt_store_model.specs.Layout.{first_part, parts, is_used, index_in, part_of_block}
 use Rattle.flt_store_model.specs.Form.{block_bytes}
 use Rattle.flt_store_model.specs.Reading.{commit_in}
 use Rattle.flt_store_model.specs.Holding.{Generation}
@@ -87,7 +87,7 @@ written_pages c None next kept bytes_of state follows told = sum_written c None 
     some id written none =
         let used = used_of c None next id written in
         let size = told.sizes id used in
-        let least = some_length (part_of id) in
+        let least = some_length (part_of_block id) in
         let length_is : 0 ≡ length (bytes_of id) = ap (λ (raw : List ℕ). length raw) (none ∙ sym (told.bytes id used)) in
         omega (arith, size, least, length_is)
 written_pages c (Some commit) next kept bytes_of state follows told = sum_written c (Some commit) next bytes_of kept state told changed

@@ -17,11 +17,11 @@ use Rattle.flt_store_model.specs.Form.{mark_of}
 use Rattle.flt_restore.specs.declared.fault.StartFault.TheVariants.{Flash}
 use Rattle.flt_restore.specs.Unread.{IsImageUnread}
 use Rattle.flt_restore.proofs.Failing.{image_unread_from}
-use Rattle.flt_store.specs.Cause.{HasRoom, Writes}
+use Rattle.flt_store.specs.Cause.{HasRoom, StoreWrites}
 use Rattle.flt_store.specs.Dark.{FailsToWrite, IsMarkUnwritten, IsCommitUnmended, IsUnbegun, IsUnrestarted}
 use Rattle.flt_store.proofs.Causes.{was_flash}
 use Rattle.flt_restore.specs.Restored.{IsMarkDue}
-use Rattle.flt_restore.specs.Told.{told_of}
+use Rattle.flt_restore.specs.Told.{start_fault_of}
 
 pub write_at_once : (number : ℕ) (raw : List ℕ) (before after : BlocksState) → GivesInAJob number (bytes raw) (length raw) before after (Err FlashFault) → after.last_failed ≡ Some number
     → FailsToWrite number raw before after
@@ -66,12 +66,12 @@ module _ (before middle after : BlocksState) (so_far : Follows before middle) (s
   unready_from c (inl unread) = inl (image_unread_from c before middle after so_far same unread)
   unready_from c (inr unbegun) = inr (unbegun_from c unbegun)
 
-not_stuck : (fault : BlockFault) → told_of fault ≡ Flash → fault ≡ Stuck → ⊥
-not_stuck fault is stuck = let told : told_of Stuck ≡ Flash = subst (λ (f : BlockFault). told_of f ≡ Flash) stuck is in absurd (cc told)
+not_stuck : (fault : BlockFault) → start_fault_of fault ≡ Flash → fault ≡ Stuck → ⊥
+not_stuck fault is stuck = let told : start_fault_of Stuck ≡ Flash = subst (λ (f : BlockFault). start_fault_of f ≡ Flash) stuck is in absurd (cc told)
 
 -- A write that is told as a fault of the flash was failed by it.
-pub was_flash_of_write : {T : Type 0} (c : Config) → IsGiven c → (before after : BlocksState) (fault : BlockFault) → Writes {T = T} before after (Err fault) → before.numbers ≡ numbers → HasRoom c before.room
-    → IsTrue before.has_mounted → IsBorne c after.value → told_of fault ≡ Flash → fault ≡ FlashFault
+pub was_flash_of_write : {T : Type 0} (c : Config) → IsGiven c → (before after : BlocksState) (fault : BlockFault) → StoreWrites {T = T} before after (Err fault) → before.numbers ≡ numbers → HasRoom c before.room
+    → IsTrue before.has_mounted → IsBorne c after.value → start_fault_of fault ≡ Flash → fault ≡ FlashFault
 was_flash_of_write {T} c given before after fault writes all room has borne is = was_flash {T = T} c given before after fault writes all room has borne (not_stuck fault is)
 
 -- A repair that failed at once.

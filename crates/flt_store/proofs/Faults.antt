@@ -15,7 +15,7 @@ use Rattle.flt_config.specs.Validity.{needed_pages}
 use Rattle.flt_store_model.specs.declared.mark.Mark.{Mark}
 use Rattle.flt_store_model.specs.declared.commit.Commit.{Commit}
 use Rattle.flt_store_model.specs.declared.place.Place.TheVariants.{Page, Block}
-use Rattle.flt_store_model.specs.Layout.{first_commit, second_commit, mark_number, number_of, part_of, first_part, parts, is_used, index_in}
+use Rattle.flt_store_model.specs.Layout.{first_commit, second_commit, mark_number, number_of, part_of_block, first_part, parts, is_used, index_in}
 use Rattle.flt_store_model.specs.Form.{mark_of}
 use Rattle.flt_store_model.specs.Reading.{mark_in, commit_in, taken}
 use Rattle.flt_store_model.specs.Excess.{excess}
@@ -23,7 +23,7 @@ use Rattle.flt_store_model.specs.Holding.{Generation, Fault, damaged, other, dam
 use Rattle.flt_restore.specs.declared.fault.StartFault.{StartFault}
 use Rattle.flt_restore.specs.declared.fault.StartFault.TheVariants.{Flash, Damaged, OtherConfig, SequenceSpent}
 use Rattle.flt_restore.specs.Restored.{IsJudged, Refuses}
-use Rattle.flt_restore.specs.Told.{told_of}
+use Rattle.flt_restore.specs.Told.{start_fault_of}
 use Rattle.flt_store.specs.declared.store.Store.{Store}
 use Rattle.flt_store.specs.Cause.{FailsThrice}
 use Rattle.flt_store.specs.Dark.{IsOfBlocks}
@@ -66,7 +66,7 @@ never_or id (Some state) = tt
 never_content : (c : Config) (id : ℕ) (content : Content) (state : Persist) → NeverPage (with_content c id content state)
 never_content c id missing state = tt
 never_content c id invalid state = tt
-never_content c id (bytes raw) state = never_or id (taken c (part_of id) raw state)
+never_content c id (bytes raw) state = never_or id (taken c (part_of_block id) raw state)
 
 never_parts : (c : Config) (value : ℕ → Content) (commit : Commit) (count : ℕ) → NeverPage (parts_read c value commit count)
 unfolding parts_read
@@ -123,20 +123,20 @@ module _ {B : Type 0} {b : Ghosts B} (c : Config) (before after : Store B b) whe
 
   -- A fault of the writing.
   pub refused_by_writing : (fault : BlockFault) (g : Generation) → Judges c before after (Ok g) → (fault ≡ Stuck → IsTrue (driver_of after).is_spent) → ((fault ≡ Stuck → ⊥) → FailsThrice (driver_of before) (driver_of after))
-      → ((sector page : ℕ) → fault ≡ DamagedPage sector page → ⊥) → RefusedFor c before after (told_of fault)
+      → ((sector page : ℕ) → fault ≡ DamagedPage sector page → ⊥) → RefusedFor c before after (start_fault_of fault)
   refused_by_writing FlashFault g judged spent thrice mounted = thrice (λ is. absurd (cc is))
   refused_by_writing (Full live needed) g judged spent thrice mounted = thrice (λ is. absurd (cc is))
   refused_by_writing Stuck g judged spent thrice mounted = ((g, judged), spent refl)
   refused_by_writing (DamagedPage sector page) g judged spent thrice mounted = absurd (mounted sector page refl)
 
 -- A fault of a write is none that is judged of the blocks.
-pub never_of_blocks : (fault : BlockFault) → IsOfBlocks (told_of fault) → ⊥
+pub never_of_blocks : (fault : BlockFault) → IsOfBlocks (start_fault_of fault) → ⊥
 never_of_blocks FlashFault of_blocks = of_blocks
 never_of_blocks (Full live needed) of_blocks = of_blocks
 never_of_blocks Stuck of_blocks = of_blocks
 never_of_blocks (DamagedPage sector page) of_blocks = of_blocks
 
-pub was_stuck : (fault : BlockFault) → told_of fault ≡ SequenceSpent → fault ≡ Stuck
+pub was_stuck : (fault : BlockFault) → start_fault_of fault ≡ SequenceSpent → fault ≡ Stuck
 was_stuck FlashFault is = absurd (cc is)
 was_stuck (Full live needed) is = absurd (cc is)
 was_stuck Stuck is = refl
@@ -144,16 +144,16 @@ was_stuck (DamagedPage sector page) is = absurd (cc is)
 
 -- A mount that failed.
 module _ {before after : BlocksState} where
-  pub dark_by_mount : (fault : BlockFault) → MountsInAJob before after (Err fault) → told_of fault ≡ Flash → Tries 3 Mounts before after (Err FlashFault)
+  pub dark_by_mount : (fault : BlockFault) → MountsInAJob before after (Err fault) → start_fault_of fault ≡ Flash → Tries 3 Mounts before after (Err FlashFault)
   dark_by_mount FlashFault mounts is = mounts.tries
   dark_by_mount (Full live needed) mounts is = absurd (mounts.never_full.full live needed refl)
   dark_by_mount Stuck mounts is = absurd (cc is)
   dark_by_mount (DamagedPage sector page) mounts is = absurd (cc is)
 
-  pub never_stuck_by_mount : (fault : BlockFault) → MountsInAJob before after (Err fault) → told_of fault ≡ SequenceSpent → ⊥
+  pub never_stuck_by_mount : (fault : BlockFault) → MountsInAJob before after (Err fault) → start_fault_of fault ≡ SequenceSpent → ⊥
   never_stuck_by_mount fault mounts is = mounts.never_full.spent (ap Err (was_stuck fault is))
 
-pub refused_by_mount : {B : Type 0} {b : Ghosts B} (c : Config) (before after : Store B b) (fault : BlockFault) → MountsInAJob (driver_of before) (driver_of after) (Err fault) → RefusedFor c before after (told_of fault)
+pub refused_by_mount : {B : Type 0} {b : Ghosts B} (c : Config) (before after : Store B b) (fault : BlockFault) → MountsInAJob (driver_of before) (driver_of after) (Err fault) → RefusedFor c before after (start_fault_of fault)
 refused_by_mount c before after FlashFault mounts = mounts.three refl
 refused_by_mount c before after (Full live needed) mounts = absurd (mounts.never_full.full live needed refl)
 refused_by_mount c before after Stuck mounts = absurd (mounts.never_full.spent refl)

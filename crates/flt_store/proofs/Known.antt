@@ -6,7 +6,7 @@ use Rattle.flt_flash.specs.Blocks.{BlocksState}
 use Rattle.flt_config.specs.declared.config.Config.{Config}
 use Rattle.flt_config.specs.declared.persist.Persist.{Persist}
 use Rattle.flt_store_model.specs.declared.commit.Commit.{Commit}
-use Rattle.flt_store_model.specs.Layout.{is_used, part_of}
+use Rattle.flt_store_model.specs.Layout.{is_used, part_of_block}
 use Rattle.flt_store_model.specs.Form.{block_bytes}
 use Rattle.flt_store_model.specs.Laws.{IsGiven}
 use Rattle.flt_store_model.specs.Holding.{Generation, CommitNames}
@@ -37,7 +37,7 @@ module _ (c : Config) (given : IsGiven c) (before after : BlocksState) (g : Gene
       own = block_bytes g.state id
 
       short : length own ≤ longest
-      short = let size = part_sized c given g.state names.fits (part_of id) in let most = part_short (part_of id) in omega (arith, size, most)
+      short = let size = part_sized c given g.state names.fits (part_of_block id) in let most = part_short (part_of_block id) in omega (arith, size, most)
 
   pub learned_may : (commit : Option Commit) → NamesOf c before.value commit g → IfSome commit (λ commit. AreLearned c before after commit found) → MayKnow c commit found g.state
   learned_may None names learns = tt

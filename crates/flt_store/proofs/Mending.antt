@@ -14,7 +14,7 @@ use Rattle.flt_store_model.specs.Layout.{commit_id, number_of, application_numbe
 use Rattle.flt_store_model.specs.Reading.{commit_in}
 use Rattle.flt_store_model.specs.Form.{commit_length}
 use Rattle.flt_store_model.specs.Holding.{Generation, Holds, IsSound, OldOrNew, SameApplications}
-use Rattle.flt_store.specs.Cause.{IsWithinOwn, Writes}
+use Rattle.flt_store.specs.Cause.{IsWithinOwn, StoreWrites}
 use Rattle.flt_store.specs.Dark.{IsCommitUnmended}
 use Rattle.flt_store.specs.Spent.{IsCommitStuck}
 use Rattle.flt_store.specs.Started.{HasMark, IsStarted}
@@ -40,7 +40,7 @@ module _ {B : Type 0} {b : Ghosts B} {c : Config} {before after : Nvm B b} {copy
   pub mended_within : IsWithinOwn c (driver_of before).value (driver_of after).value
   mended_within = copy_within c (driver_of before).value (driver_of after).value raw copy mends.least mends.most size.1 mends.repairs.gives.either mends.repairs.gives.others
 
-  pub mended_writes : Writes (driver_of before) (driver_of after) result
+  pub mended_writes : StoreWrites (driver_of before) (driver_of after) result
   mended_writes = one_write (driver_of before) (driver_of after) result mends.repairs.calls mends.repairs.three _ _ _ (let short = size.1 in omega (arith, short)) mends.repairs.gives
 
   pub mended_started : result ≡ Ok tt → (g : Generation) → HasMark c (driver_of before).value → Holds c (driver_of before).value (bytes raw) g → IsStarted c (driver_of after).value (Some commit) g

@@ -7,7 +7,7 @@ use Rattle.flt_config.specs.declared.persist.Persist.{Persist}
 use Rattle.flt_store_model.specs.declared.commit.Commit.{Commit}
 use Rattle.flt_store_model.specs.declared.part.Part.{Part}
 use Rattle.flt_store_model.specs.declared.part.Part.TheVariants.{Summary, States, Entry}
-use Rattle.flt_store_model.specs.Layout.{is_used, index_in, part_of}
+use Rattle.flt_store_model.specs.Layout.{is_used, index_in, part_of_block}
 use Rattle.flt_store_model.specs.Form.{IsCommit, block_bytes, part_length}
 use Rattle.flt_store_model.specs.Successor.{number_in, IsPlaced, IsNext, is_moved, is_written, WritesWithin}
 use Rattle.flt_store_model.proofs.Pages.{used_range}
@@ -84,12 +84,12 @@ unmoved c commit next kept bytes_of old new id used still placed known told = (s
     stayed : kept id ≡ bytes_of id
     stayed = ⊎_elim (λ stays. stays.0) (λ moves. absurd (moves.2 same)) placed
 
-    size : length (bytes_of id) ≡ part_length (part_of id)
+    size : length (bytes_of id) ≡ part_length (part_of_block id)
     size = told.sizes id used
 
     bytes : block_bytes old id ≡ block_bytes new id
     bytes =
         ⊎_elim
-        (λ nothing. (let none : length (bytes_of id) ≡ 0 = ap (λ (raw : List ℕ). length raw) (sym stayed ∙ nothing) in let some = some_length (part_of id) in absurd (omega (arith, size, none, some))))
+        (λ nothing. (let none : length (bytes_of id) ≡ 0 = ap (λ (raw : List ℕ). length raw) (sym stayed ∙ nothing) in let some = some_length (part_of_block id) in absurd (omega (arith, size, none, some))))
         (λ knows. sym knows ∙ stayed ∙ told.bytes id used)
         (known id used)

@@ -5,23 +5,23 @@ use Rattle.flt_nvm.specs.declared.table.Kind.{Kind}
 use Rattle.flt_nvm.specs.declared.table.Kind.TheVariants.{Native, Redundant, Dataset}
 use Rattle.flt_nvm.specs.declared.table.BlockCfg.{BlockCfg}
 use Rattle.flt_nvm.specs.Table.{block_in, indices_of, ByKind, AsKept, HasIndex, FitsBlock, IsRedundant}
-use Rattle.flt_store_model.specs.Layout.{mark_id, commit_id, first_part, end_part, first_application, applications, part_of}
+use Rattle.flt_store_model.specs.Layout.{mark_id, commit_id, first_part, end_part, first_application, applications, part_of_block}
 use Rattle.flt_store_model.specs.Form.{part_length, commit_length}
-use Rattle.flt_image.specs.Table.{row, block_table}
+use Rattle.flt_image.specs.Table.{block_row, block_table}
 use Rattle.flt_image.proofs.TableRows.{mark_row, commit_row, part_row, application_row}
 
 module _ (table : List BlockCfg) (is : table ≡ block_table) where
   row_in : (id : ℕ) (found : Option BlockCfg) → block_in block_table id ≡ found → found ≡ block_in table id
   row_in id found at = sym at ∙ ap (λ (rows : List BlockCfg). block_in rows id) (sym is)
 
-  has_index : (id index length : ℕ) (kind : Kind) → block_in block_table id ≡ Some (row kind length id) → index < indices_of kind → HasIndex table id index
-  has_index id index length kind at within = subst (λ (found : Option BlockCfg). IsSomeAnd found (λ block. index < indices_of block.kind)) (row_in id (Some (row kind length id)) at) within
+  has_index : (id index length : ℕ) (kind : Kind) → block_in block_table id ≡ Some (block_row kind length id) → index < indices_of kind → HasIndex table id index
+  has_index id index length kind at within = subst (λ (found : Option BlockCfg). IsSomeAnd found (λ block. index < indices_of block.kind)) (row_in id (Some (block_row kind length id)) at) within
 
-  holds : (id size length : ℕ) (kind : Kind) → block_in block_table id ≡ Some (row kind length id) → size ≤ length → FitsBlock table id size
-  holds id size length kind at within = subst (λ (found : Option BlockCfg). IsSomeAnd found (λ block. size ≤ block.length)) (row_in id (Some (row kind length id)) at) within
+  holds : (id size length : ℕ) (kind : Kind) → block_in block_table id ≡ Some (block_row kind length id) → size ≤ length → FitsBlock table id size
+  holds id size length kind at within = subst (λ (found : Option BlockCfg). IsSomeAnd found (λ block. size ≤ block.length)) (row_in id (Some (block_row kind length id)) at) within
 
-  kept_as : (id length : ℕ) (kind : Kind) (Single Both : Type 0) → block_in block_table id ≡ Some (row kind length id) → AsKept table id Single Both → ByKind kind Single Both
-  kept_as id length kind Single Both at fact = subst (λ (found : Option BlockCfg). IfSome found (λ block. ByKind block.kind Single Both)) (sym (row_in id (Some (row kind length id)) at)) fact
+  kept_as : (id length : ℕ) (kind : Kind) (Single Both : Type 0) → block_in block_table id ≡ Some (block_row kind length id) → AsKept table id Single Both → ByKind kind Single Both
+  kept_as id length kind Single Both at fact = subst (λ (found : Option BlockCfg). IfSome found (λ block. ByKind block.kind Single Both)) (sym (row_in id (Some (block_row kind length id)) at)) fact
 
   pub mark_index : HasIndex table mark_id 0
   mark_index = has_index mark_id 0 8 Native mark_row (omega arith)
@@ -36,7 +36,7 @@ module _ (table : List BlockCfg) (is : table ≡ block_table) where
   commit_index = has_index commit_id 0 commit_length Redundant commit_row (omega arith)
 
   pub commit_twice : IsRedundant table commit_id
-  commit_twice = subst (λ (found : Option BlockCfg). IsSomeAnd found (λ block. block.kind ≡ Redundant)) (row_in commit_id (Some (row Redundant commit_length commit_id)) commit_row) refl
+  commit_twice = subst (λ (found : Option BlockCfg). IsSomeAnd found (λ block. block.kind ≡ Redundant)) (row_in commit_id (Some (block_row Redundant commit_length commit_id)) commit_row) refl
 
   pub commit_fits : (size : ℕ) → size ≤ commit_length → FitsBlock table commit_id size
   commit_fits size within = holds commit_id size commit_length Redundant commit_row within
@@ -46,13 +46,13 @@ module _ (table : List BlockCfg) (is : table ≡ block_table) where
 
   module _ (id : ℕ) (low : first_part ≤ id) (high : id < end_part) where
     pub part_index : (index : ℕ) → index ≤ 1 → HasIndex table id index
-    part_index index small = has_index id index (part_length (part_of id)) (Dataset 2) (part_row id low high) (omega (arith, small))
+    part_index index small = has_index id index (part_length (part_of_block id)) (Dataset 2) (part_row id low high) (omega (arith, small))
 
-    pub part_fits : (size : ℕ) → size ≤ part_length (part_of id) → FitsBlock table id size
-    part_fits size within = holds id size (part_length (part_of id)) (Dataset 2) (part_row id low high) within
+    pub part_fits : (size : ℕ) → size ≤ part_length (part_of_block id) → FitsBlock table id size
+    part_fits size within = holds id size (part_length (part_of_block id)) (Dataset 2) (part_row id low high) within
 
     pub part_alone : (Single Both : Type 0) → AsKept table id Single Both → Single
-    part_alone Single Both fact = kept_as id (part_length (part_of id)) (Dataset 2) Single Both (part_row id low high) fact
+    part_alone Single Both fact = kept_as id (part_length (part_of_block id)) (Dataset 2) Single Both (part_row id low high) fact
 
   module _ (block : ℕ) (within : block < applications) where
     pub application_index : HasIndex table (first_application + block) 0

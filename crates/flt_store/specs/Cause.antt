@@ -27,7 +27,7 @@ abbrev pub IsWithinOwn : Config → (ℕ → Content) → (ℕ → Content) → 
 IsWithinOwn c before after = (number : ℕ) → (after number ≡ before number) ⊎ (pages_of (after number) ≤ own_pages c number)
 
 -- Calls that wrote records of at most 96 bytes, each fault of which has its cause.
-pub record Writes {T : Type 0} (before after : BlocksState) (result : Result T BlockFault) : Type 0 where
+pub record StoreWrites {T : Type 0} (before after : BlocksState) (result : Result T BlockFault) : Type 0 where
   pub follows : Follows before after
   pub flash : IsErrOf result Flash → FailsThrice before after
   pub full : (live needed : ℕ) → IsErrOf result (Full live needed) → (size : ℕ) × (size ≤ 96) × IsFull after size live needed

@@ -13,7 +13,7 @@ use Rattle.flt_store_model.specs.Layout.{commit_id, number_of}
 use Rattle.flt_store_model.specs.Form.{IsCommit}
 use Rattle.flt_store_model.specs.Reading.{commit_in}
 use Rattle.flt_store_model.specs.Holding.{Generation, OldOrNew}
-use Rattle.flt_store.specs.Cause.{IsWithinOwn, Writes}
+use Rattle.flt_store.specs.Cause.{IsWithinOwn, StoreWrites}
 use Rattle.flt_store.specs.Dark.{IsUnrestarted}
 use Rattle.flt_store.specs.Keeping.{IsOfFirst}
 use Rattle.flt_store.specs.Spent.{IsCommitStuck}
@@ -42,14 +42,14 @@ pub record WritesOtherCopy {T : Type 0} (c : Config) (copy : ℕ) (raw : List �
 pub record RepairsCopy (c : Config) (g : Generation) (copy : ℕ) (raw : List ℕ) (before after : BlocksState) (result : Result Commit BlockFault) : Type 0 where
   pub started : HasMark c before.value → IfOk result (λ commit. IsStarted c after.value (Some commit) g)
   pub unmended : IsErrOf result Flash → IsUnmended before after (number_of commit_id (2 - copy)) (bytes raw)
-  pub writes : Writes before after result
+  pub writes : StoreWrites before after result
 
 -- Both copies were made to name one of the two generations of a sound image; or that failed for its cause, and left it sound.
 pub record Restarts (c : Config) (held spare : Generation) (before after : BlocksState) (result : Result (Option Commit) BlockFault) : Type 0 where
   pub started : HasMark c before.value → IfOk result (λ commit. StartsEither c before after commit held spare)
   pub failed : (new : Generation) → OnErr result (OldOrNew c after.value held spare new)
   pub unrestarted : IsErrOf result Flash → IsUnrestarted before after
-  pub writes : Writes before after result
+  pub writes : StoreWrites before after result
 
 -- The commit that both copies have, if any: it is well formed, and that of the first copy unless the flash failed three times.
 pub record IsCommitFound (c : Config) (before after : BlocksState) (commit : Option Commit) : Type 0 where

@@ -17,7 +17,7 @@ use Rattle.flt_image.specs.Blocks.{AreBlocksOf}
 use Rattle.flt_store.specs.declared.fault.SaveFault.{SaveFault}
 use Rattle.flt_store.specs.declared.fault.SaveFault.TheVariants.{Flash, Spent, SequenceSpent}
 use Rattle.flt_store.specs.declared.store.Store.{Store}
-use Rattle.flt_store.specs.Cause.{FailsThrice, IsStuck, IsWithinOwn, Writes}
+use Rattle.flt_store.specs.Cause.{FailsThrice, IsStuck, IsWithinOwn, StoreWrites}
 use Rattle.flt_store.specs.Dark.{IsUnrestarted, IsUnsaved}
 use Rattle.flt_store.specs.Keeping.{AreRewritten, KeepsFrom, KeepsPlaces, StandAtZero}
 use Rattle.flt_store.specs.Cost.{Spends, pages_to_write}
@@ -36,7 +36,7 @@ pub record AreWritable (c : Config) (current : Option Commit) (next : Commit) (b
 pub record WritesOwn {T : Type 0} (c : Config) (before after : BlocksState) (result : Result T BlockFault) : Type 0 where
   pub within : IsWithinOwn c before.value after.value
   pub not_stale : IsFalse before.is_stale → OnOk result (IsFalse after.is_stale)
-  pub writes : Writes before after result
+  pub writes : StoreWrites before after result
 
 -- A state can be saved behind this commit: a number is left for it, and it fits.
 pub record CanSaveBehind (c : Config) (current : Option Commit) (state : Persist) : Type 0 where
@@ -57,7 +57,7 @@ pub record WritesBehind (c : Config) (g new : Generation) (after : ℕ → Conte
 pub record WritesGeneration {T : Type 0} (before after : BlocksState) (result : Result T BlockFault) : Type 0 where
   pub driver : LeavesDriver before after result
   pub mark : after.value mark_number ≡ before.value mark_number
-  pub writes : Writes before after result
+  pub writes : StoreWrites before after result
 
 -- These bytes are those of the state's blocks; after Ok the next commit names them, and both copies have it in the version that is written.
 pub record FormsNext (c : Config) (current : Option Commit) (old : ℕ → List ℕ) (state : Persist) (new : ℕ → List ℕ) (after : ℕ → Content) (result : Result Commit BlockFault) : Type 0 where

@@ -16,7 +16,7 @@ use Rattle.flt_restore.specs.declared.fault.StartFault.{StartFault}
 use Rattle.flt_restore.specs.declared.fault.StartFault.TheVariants.{Flash, SequenceSpent}
 use Rattle.flt_restore.specs.Restored.{IsMarkDue}
 use Rattle.flt_store.specs.declared.store.Store.{Store}
-use Rattle.flt_store.specs.Cause.{HasRoom, Writes}
+use Rattle.flt_store.specs.Cause.{HasRoom, StoreWrites}
 use Rattle.flt_store.specs.Started.{HasMark, IsMarkTried, IsStarted}
 use Rattle.flt_store.specs.Leaving.{AddsNoGeneration}
 use Rattle.flt_store.specs.Store.{driver_of}
@@ -49,7 +49,7 @@ pub record BeginsWith (c : Config) (g : Generation) (before after : BlocksState)
   pub started : IfOk result (λ commit. IsStarted c after.value commit g)
   pub generations : AddsNoGeneration c before after result
   pub unbegun : IsErrOf result BlockFlash → IsUnbegun c before after
-  pub writes : Writes before after result
+  pub writes : StoreWrites before after result
   pub borne : IsBorne c after.value
 
 module _ {B : Type 0} {b : Ghosts B} where

@@ -3,7 +3,7 @@ use Rattle.std.specs.Prelude.{◌≡◌, ℕ, List, length, Option, IsTrue}
 use Rattle.flt_flash.specs.Content.{Content, bytes}
 use Rattle.flt_config.specs.declared.config.Config.{Config}
 use Rattle.flt_store_model.specs.declared.commit.Commit.{Commit}
-use Rattle.flt_store_model.specs.Layout.{first_commit, second_commit, number_of, index_in, is_used, part_of}
+use Rattle.flt_store_model.specs.Layout.{first_commit, second_commit, number_of, index_in, is_used, part_of_block}
 use Rattle.flt_store_model.specs.Form.{commit_bytes, part_length}
 use Rattle.flt_store_model.specs.Successor.{is_written}
 
@@ -13,7 +13,7 @@ AreCopiesOf commit value = (value first_commit ≡ bytes (commit_bytes commit)) 
 
 -- Each used block has as many bytes as its part.
 abbrev pub AreSized : Config → (ℕ → List ℕ) → Type 0
-AreSized c bytes_of = (id : ℕ) → IsTrue (is_used c id) → length (bytes_of id) ≡ part_length (part_of id)
+AreSized c bytes_of = (id : ℕ) → IsTrue (is_used c id) → length (bytes_of id) ≡ part_length (part_of_block id)
 
 -- This block has these bytes where the next commit names it.
 abbrev pub IsBlockWritten : Commit → (ℕ → List ℕ) → (ℕ → Content) → ℕ → Type 0

@@ -8,7 +8,7 @@ ghost use Rattle.flt_store_model.specs.Holding.{Generation};
 ghost use Rattle.flt_store_model.specs.Successor.{OnlyNewBlock, OnlyNewBlocks, is_moved, is_written};
 ghost use Rattle.flt_image.specs.Blocks.{bytes_at};
 ghost use Rattle.flt_image.specs.Table.{block_table};
-ghost use Rattle.flt_store.specs.Cause.{Writes};
+ghost use Rattle.flt_store.specs.Cause.{StoreWrites};
 ghost use Rattle.flt_store.specs.Cost.{Spends, SpendsOnBlock, written_sum};
 ghost use Rattle.flt_store.specs.Saving.{AreWritable, CanSaveBehind, FormsNext, IsKnownCurrent, SpendsOnSave, WritesBehind, WritesGeneration, WritesOwn};
 ghost use Rattle.flt_store.specs.Started.{next_generation};

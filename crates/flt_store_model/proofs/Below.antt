@@ -12,7 +12,7 @@ use Rattle.flt_config.specs.Durable.{IsEntryOf}
 use Rattle.flt_store_model.specs.declared.commit.Commit.{Commit}
 use Rattle.flt_store_model.specs.declared.part.Part.{Part}
 use Rattle.flt_store_model.specs.declared.part.Part.TheVariants.{Summary, States, Entry}
-use Rattle.flt_store_model.specs.Layout.{part_of, is_used, parts, later_states_id, first_later_event, states_per_block}
+use Rattle.flt_store_model.specs.Layout.{part_of_block, is_used, parts, later_states_id, first_later_event, states_per_block}
 use Rattle.flt_store_model.specs.Fit.{entry_fits_at, is_alone, place_fits, part_fits}
 use Rattle.flt_store_model.specs.Holding.{parts_read}
 use Rattle.flt_store_model.specs.Faults.{HoldBelow}
@@ -47,7 +47,7 @@ module _ (c : Config) (sizes : HasSizes c) (value : ℕ → Content) (commit : C
             ]
 
     -- Each part that was read fits.
-    part_fits_at : (id : ℕ) → 3 ≤ id → id < 3 + count → part_fits c p (part_of id) ≡ true
+    part_fits_at : (id : ℕ) → 3 ≤ id → id < 3 + count → part_fits c p (part_of_block id) ≡ true
     part_fits_at id low below = elim (kind_of id low) [
       | is_summary at of ↦ fits_as Summary of (known.summary_is (omega (arith, below, low)))
       | are_states from high of ↦ fits_as (States (16 * (id - 4))) of (states_pass c.events.items p.events.items (16 * (id - 4)) 16 known.states_are)
@@ -55,7 +55,7 @@ module _ (c : Config) (sizes : HasSizes c) (value : ℕ → Content) (commit : C
       | is_entry from high of ↦ fits_as (Entry (id - 8)) of (entry_at (id - 8) (omega (arith, below, from)))
     ]
       where
-        fits_as : (part : Part) → part_of id ≡ part → part_fits c p part ≡ true → part_fits c p (part_of id) ≡ true
+        fits_as : (part : Part) → part_of_block id ≡ part → part_fits c p part ≡ true → part_fits c p (part_of_block id) ≡ true
         fits_as part of is = subst (λ (x : Part). part_fits c p x ≡ true) (sym of) is
 
         entry_at : (place : ℕ) → place + 5 < count → part_fits c p (Entry place) ≡ true

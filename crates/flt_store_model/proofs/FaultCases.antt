@@ -10,7 +10,7 @@ use Rattle.flt_config.specs.Validity.{needed_pages}
 use Rattle.flt_store_model.specs.declared.mark.Mark.{Mark}
 use Rattle.flt_store_model.specs.declared.commit.Commit.{Commit}
 use Rattle.flt_store_model.specs.declared.place.Place.TheVariants.{Block}
-use Rattle.flt_store_model.specs.Layout.{mark_id, number_of, application_number, part_of, is_used, index_in}
+use Rattle.flt_store_model.specs.Layout.{mark_id, number_of, application_number, part_of_block, is_used, index_in}
 use Rattle.flt_store_model.specs.Form.{mark_of, IsCommit, IsBytesOfMark, IsBytesOfCommit}
 use Rattle.flt_store_model.specs.Reading.{mark_in, commit_in, taken}
 use Rattle.flt_store_model.specs.Excess.{excess, IsBorne}
@@ -125,7 +125,7 @@ module _ (c : Config) (value : ℕ → Content) (commit : Commit) where
       by_content : is_used c id ≡ true → (content : Content) → OneIs id (with_content c id content p)
       by_content used missing = fails used refl
       by_content used invalid = fails used refl
-      by_content used (bytes held) = by_part used (taken c (part_of id) held p)
+      by_content used (bytes held) = by_part used (taken c (part_of_block id) held p)
 
       by_used : (used : Bool) → is_used c id ≡ used → OneIs id (if used then with_content c id (value (number_of id (index_in commit id))) p else Ok p)
       by_used true used = by_content used (value (number_of id (index_in commit id)))

@@ -10,7 +10,7 @@ use Rattle.flt_config.specs.declared.config.Config.{Config}
 use Rattle.flt_config.specs.Validity.{state_blocks, needed_pages}
 use Rattle.flt_store_model.specs.declared.part.Part.{Part}
 use Rattle.flt_store_model.specs.declared.part.Part.TheVariants.{States, Entry}
-use Rattle.flt_store_model.specs.Layout.{numbers, number_of, both_indices, application_number, part_of, has_part, is_used, parts, end_part, later_states_id, later_states_blocks, first_later_event, states_per_block, entries, states_blocks}
+use Rattle.flt_store_model.specs.Layout.{numbers, number_of, both_indices, application_number, part_of_block, has_part, is_used, parts, end_part, later_states_id, later_states_blocks, first_later_event, states_per_block, most_entries, states_blocks}
 use Rattle.flt_store_model.specs.Form.{part_length}
 use Rattle.flt_store_model.specs.Excess.{is_own_part, is_own_application, own_pages, IsBorne}
 use Rattle.flt_store_model.specs.Laws.{IsGiven}
@@ -92,16 +92,16 @@ split_sum f first (suc one) two =
     ∙ ap (λ (n : ℕ). f first + n) (split_sum f (first + 1) one two ∙ ap (λ (n : ℕ). sum_by f (range_with_len (first + 1) one) + sum_by f (range_with_len n two)) at)
     ∙ omega (arith, here)
 
-add_up : (whole left right mark pairs three rest states behind entries later s m b : ℕ) → whole ≡ left + right → left ≡ mark + pairs → mark ≡ 9 → pairs ≡ three + rest → three ≡ 6
-    → rest ≡ states + behind → behind ≡ entries + later → states ≡ 8 * min s states_blocks → entries ≡ 10 * min m 16 → later ≡ 8 * min (s - states_blocks) later_states_blocks → right ≡ 3 * min b 40 → s ≤ states_blocks + later_states_blocks → m ≤ 16 → b ≤ 40 → whole + 7 ≡ 22 + 8 * s + 10 * m + 3 * b
-add_up whole left right mark pairs three rest states behind entries later s m b a1 a2 a3 a4 a5 a6 a7 a8 a9 a10 a11 few small low = omega (arith, a1, a2, a3, a4, a5, a6, a7, a8, a9, a10, a11, few, small, low)
+add_up : (whole left right mark pairs three rest states behind most_entries later s m b : ℕ) → whole ≡ left + right → left ≡ mark + pairs → mark ≡ 9 → pairs ≡ three + rest → three ≡ 6
+    → rest ≡ states + behind → behind ≡ most_entries + later → states ≡ 8 * min s states_blocks → most_entries ≡ 10 * min m 16 → later ≡ 8 * min (s - states_blocks) later_states_blocks → right ≡ 3 * min b 40 → s ≤ states_blocks + later_states_blocks → m ≤ 16 → b ≤ 40 → whole + 7 ≡ 22 + 8 * s + 10 * m + 3 * b
+add_up whole left right mark pairs three rest states behind most_entries later s m b a1 a2 a3 a4 a5 a6 a7 a8 a9 a10 a11 few small low = omega (arith, a1, a2, a3, a4, a5, a6, a7, a8, a9, a10, a11, few, small, low)
 
 module _ (c : Config) where
   abbrev for_application : ℕ → ℕ
   for_application number = if is_own_application c number then record_pages 32 else 0
 
   abbrev for_part : ℕ → ℕ
-  for_part number = if is_own_part c number then record_pages (part_length (part_of (number / 8))) else for_application number
+  for_part number = if is_own_part c number then record_pages (part_length (part_of_block (number / 8))) else for_application number
 
   -- The pages of a number that is none of the mark and the commit.
   of_other : (number : ℕ) → 18 ≤ number → own_pages c number ≡ for_part number
@@ -110,29 +110,29 @@ module _ (c : Config) where
       not_chosen (number == 8) (record_pages 8) _ (ne_eqb number 8 (λ e. omega (arith, e, high)))
       ∙ not_chosen ((number == 16) || (number == 17)) (record_pages 26) _ (or_from (number == 16) (number == 17) (ne_eqb number 16 (λ e. omega (arith, e, high))) (ne_eqb number 17 (λ e. omega (arith, e, high))))
 
-  pub used_is : (id : ℕ) → 3 ≤ id → id < end_part → is_used c id ≡ has_part c (part_of id)
+  pub used_is : (id : ℕ) → 3 ≤ id → id < end_part → is_used c id ≡ has_part c (part_of_block id)
   used_is id low high =
-      ap (λ (b : Bool). b && nat_lt id end_part && has_part c (part_of id)) (le-leb 3 id low) ∙ ap (λ (b : Bool). true && b && has_part c (part_of id)) (lt-ltb id end_part high)
+      ap (λ (b : Bool). b && nat_lt id end_part && has_part c (part_of_block id)) (le-leb 3 id low) ∙ ap (λ (b : Bool). true && b && has_part c (part_of_block id)) (lt-ltb id end_part high)
 
   and_true : (b : Bool) → (b && true) ≡ b
   and_true true = refl
   and_true false = refl
 
   -- The pages of an index of a part.
-  pub of_part : (id index : ℕ) → 3 ≤ id → id < end_part → index ≤ 1 → own_pages c (number_of id index) ≡ (if has_part c (part_of id) then record_pages (part_length (part_of id)) else 0)
+  pub of_part : (id index : ℕ) → 3 ≤ id → id < end_part → index ≤ 1 → own_pages c (number_of id index) ≡ (if has_part c (part_of_block id) then record_pages (part_length (part_of_block id)) else 0)
   of_part id index low high small =
       let number = number_of id index in
       let at : number / 8 ≡ id = omega (arith, small) in
-      let own : is_own_part c number ≡ has_part c (part_of id) =
+      let own : is_own_part c number ≡ has_part c (part_of_block id) =
       ap (λ (n : ℕ). is_used c n && nat_le (number % 8) 1) at ∙ ap (λ (b : Bool). is_used c id && b) (le-leb (number % 8) 1 (omega (arith, small)))
       ∙ and_true (is_used c id) ∙ used_is id low high in
       let no_application : is_own_application c number ≡ false =
       and_left ((number % 8 == 0) && nat_le 64 (number / 8)) (nat_lt (number / 8) (64 + c.blocks))
       (and_right (number % 8 == 0) (nat_le 64 (number / 8)) (lt-leb 64 (number / 8) (omega (arith, at, high)))) in
       of_other number (omega (arith, low))
-      ∙ ap (λ (b : Bool). if b then record_pages (part_length (part_of (number / 8))) else for_application number) own
-      ∙ ap (λ (n : ℕ). if has_part c (part_of id) then record_pages (part_length (part_of n)) else for_application number) at
-      ∙ ap (λ (n : ℕ). if has_part c (part_of id) then record_pages (part_length (part_of id)) else n) (not_chosen (is_own_application c number) (record_pages 32) 0 no_application)
+      ∙ ap (λ (b : Bool). if b then record_pages (part_length (part_of_block (number / 8))) else for_application number) own
+      ∙ ap (λ (n : ℕ). if has_part c (part_of_block id) then record_pages (part_length (part_of_block n)) else for_application number) at
+      ∙ ap (λ (n : ℕ). if has_part c (part_of_block id) then record_pages (part_length (part_of_block id)) else n) (not_chosen (is_own_application c number) (record_pages 32) 0 no_application)
 
   -- The pages of both indices of a part.
   abbrev both : ℕ → ℕ
@@ -142,13 +142,13 @@ module _ (c : Config) where
   twice true n = refl
   twice false n = refl
 
-  both_of : (id : ℕ) → 3 ≤ id → id < end_part → both id ≡ (if has_part c (part_of id) then record_pages (part_length (part_of id)) + record_pages (part_length (part_of id)) else 0)
+  both_of : (id : ℕ) → 3 ≤ id → id < end_part → both id ≡ (if has_part c (part_of_block id) then record_pages (part_length (part_of_block id)) + record_pages (part_length (part_of_block id)) else 0)
   both_of id low high =
       ap (λ (n : ℕ). n + own_pages c (number_of id 1)) (of_part id 0 low high (omega arith))
-      ∙ ap (λ (n : ℕ). (if has_part c (part_of id) then record_pages (part_length (part_of id)) else 0) + n) (of_part id 1 low high (omega arith))
-      ∙ twice (has_part c (part_of id)) (record_pages (part_length (part_of id)))
+      ∙ ap (λ (n : ℕ). (if has_part c (part_of_block id) then record_pages (part_length (part_of_block id)) else 0) + n) (of_part id 1 low high (omega arith))
+      ∙ twice (has_part c (part_of_block id)) (record_pages (part_length (part_of_block id)))
 
-  by_part : (id : ℕ) (part : Part) → 3 ≤ id → id < end_part → part_of id ≡ part → both id ≡ (if has_part c part then record_pages (part_length part) + record_pages (part_length part) else 0)
+  by_part : (id : ℕ) (part : Part) → 3 ≤ id → id < end_part → part_of_block id ≡ part → both id ≡ (if has_part c part then record_pages (part_length part) + record_pages (part_length part) else 0)
   by_part id part low high is = both_of id low high ∙ ap (λ (x : Part). if has_part c x then record_pages (part_length x) + record_pages (part_length x) else 0) is
 
   states_of : (k : ℕ) → k < 4 → both (4 + k) ≡ (if nat_lt k (state_blocks (length c.events.items)) then 8 else 0)
@@ -194,7 +194,7 @@ module _ (c : Config) where
       let at : number / 8 ≡ 64 + k = omega arith in
       let no_part : is_own_part c number ≡ false =
       and_left (is_used c (number / 8)) (nat_le (number % 8) 1)
-      (and_left (nat_le 3 (number / 8) && nat_lt (number / 8) end_part) (has_part c (part_of (number / 8)))
+      (and_left (nat_le 3 (number / 8) && nat_lt (number / 8) end_part) (has_part c (part_of_block (number / 8)))
       (and_right (nat_le 3 (number / 8)) (nat_lt (number / 8) end_part) (le-ltb (number / 8) end_part (omega (arith, at))))) in
       let own : is_own_application c number ≡ nat_lt k c.blocks =
       ap (λ (b : Bool). b && nat_le 64 (number / 8) && nat_lt (number / 8) (64 + c.blocks)) (eq-eqb (number % 8) 0 (omega arith))
@@ -204,7 +204,7 @@ module _ (c : Config) where
         | inr past ↦ le-ltb (number / 8) (64 + c.blocks) (omega (arith, at, past)) ∙ sym (le-ltb k c.blocks past)
       ] in
       of_other number (omega arith)
-      ∙ not_chosen (is_own_part c number) (record_pages (part_length (part_of (number / 8)))) (for_application number) no_part
+      ∙ not_chosen (is_own_part c number) (record_pages (part_length (part_of_block (number / 8)))) (for_application number) no_part
       ∙ ap (λ (b : Bool). if b then 3 else 0) own
 
   mark_and_commit : sum_by (own_pages c) (8 ∷ 16 ∷ 17 ∷ []) ≡ 9
@@ -222,10 +222,10 @@ module _ (c : Config) where
       let blocks = map application_number (range_with_len 0 40) in
       add_up (sum_by (own_pages c) numbers) (sum_by (own_pages c) ((8 ∷ 16 ∷ 17 ∷ []) ++ pairs)) (sum_by (own_pages c) blocks)
       (sum_by (own_pages c) (8 ∷ 16 ∷ 17 ∷ [])) (sum_by (own_pages c) pairs) (both 3) (sum_by both (range_with_len 4 (parts - 1)))
-      (sum_by both (range_with_len 4 4)) (sum_by both (range_with_len 8 (entries + later_states_blocks))) (sum_by both (range_with_len 8 entries)) (sum_by both (range_with_len later_states_id later_states_blocks)) (state_blocks (length c.events.items)) c.memory c.blocks
+      (sum_by both (range_with_len 4 4)) (sum_by both (range_with_len 8 (most_entries + later_states_blocks))) (sum_by both (range_with_len 8 most_entries)) (sum_by both (range_with_len later_states_id later_states_blocks)) (state_blocks (length c.events.items)) c.memory c.blocks
       (sum_by-append (own_pages c) ((8 ∷ 16 ∷ 17 ∷ []) ++ pairs) blocks)
       (sum_by-append (own_pages c) (8 ∷ 16 ∷ 17 ∷ []) pairs)
-      mark_and_commit (both_sum (own_pages c) 3 parts ∙ sum_more both 3 (range_with_len 4 (parts - 1))) summary_of_both (split_sum both 4 4 (entries + later_states_blocks)) (split_sum both 8 entries later_states_blocks)
+      mark_and_commit (both_sum (own_pages c) 3 parts ∙ sum_more both 3 (range_with_len 4 (parts - 1))) summary_of_both (split_sum both 4 4 (most_entries + later_states_blocks)) (split_sum both 8 most_entries later_states_blocks)
       (below_sum both 8 (λ n. omega arith) (omega arith) (state_blocks (length c.events.items)) 4 4 states_of)
       (below_sum both 10 (λ n. omega arith) (omega arith) c.memory 8 16 entries_of)
       (below_sum both 8 (λ n. omega arith) (omega arith) (state_blocks (length c.events.items) - 4) later_states_id later_states_blocks later_of)
@@ -248,14 +248,14 @@ borne_has_room c given value borne =
     omega (arith, most_sum (λ number. pages_of (value number)) (own_pages c) numbers, own_sum c given, borne)
 
 -- The used blocks lie between the commit and the application blocks, and are parts of the configuration.
-pub used_range : (c : Config) (id : ℕ) → IsTrue (is_used c id) → (3 ≤ id) × (id < end_part) × IsTrue (has_part c (part_of id))
+pub used_range : (c : Config) (id : ℕ) → IsTrue (is_used c id) → (3 ≤ id) × (id < end_part) × IsTrue (has_part c (part_of_block id))
 used_range c id used =
-    let both = and_parts (nat_le 3 id && nat_lt id end_part) (has_part c (part_of id)) used in
+    let both = and_parts (nat_le 3 id && nat_lt id end_part) (has_part c (part_of_block id)) used in
     let range = and_parts (nat_le 3 id) (nat_lt id end_part) both.0 in
     (leb-true 3 id range.0, ltb-true id end_part range.1, both.1)
 
 -- A used block is as long as its part.
-pub own_part : (c : Config) (id index : ℕ) → IsTrue (is_used c id) → index ≤ 1 → own_pages c (number_of id index) ≡ record_pages (part_length (part_of id))
+pub own_part : (c : Config) (id index : ℕ) → IsTrue (is_used c id) → index ≤ 1 → own_pages c (number_of id index) ≡ record_pages (part_length (part_of_block id))
 own_part c id index used small =
     let range = used_range c id used in
-    of_part c id index range.0 range.1 small ∙ chosen (has_part c (part_of id)) (record_pages (part_length (part_of id))) 0 range.2
+    of_part c id index range.0 range.1 small ∙ chosen (has_part c (part_of_block id)) (record_pages (part_length (part_of_block id))) 0 range.2

@@ -13,7 +13,7 @@ use Rattle.flt_config.proofs.DistinctLemmas.{position-None}
 use Rattle.flt_store_model.specs.declared.commit.Commit.{Commit}
 use Rattle.flt_store_model.specs.declared.part.Part.{Part}
 use Rattle.flt_store_model.specs.declared.part.Part.TheVariants.{Summary, States, Entry}
-use Rattle.flt_store_model.specs.Layout.{number_of, part_of, has_part, is_used, index_in, parts, end_part, later_states_id, first_later_event, states_per_block}
+use Rattle.flt_store_model.specs.Layout.{number_of, part_of_block, has_part, is_used, index_in, parts, end_part, later_states_id, first_later_event, states_per_block}
 use Rattle.flt_store_model.specs.Form.{part_bytes, parts_1}
 use Rattle.flt_store_model.specs.Fit.{states_fit, entry_fits_at, is_alone, place_fits, note_fits, summary_fits, part_fits}
 use Rattle.flt_store_model.specs.Reading.{with_part, with_summary, entry_from, with_states, taken, untaken_entry}
@@ -24,7 +24,7 @@ use Rattle.flt_store_model.proofs.Sizes.{taken_holds, set_here}
 use Rattle.flt_store_model.proofs.Steps.{gave, both_ok, is_summary, are_states, is_entry, are_later, kind_of, bytes_kept}
 
 -- A used block, by its part.
-pub used_from : (c : Config) (id : ℕ) → 3 ≤ id → id < end_part → has_part c (part_of id) ≡ true → IsTrue (is_used c id)
+pub used_from : (c : Config) (id : ℕ) → 3 ≤ id → id < end_part → has_part c (part_of_block id) ≡ true → IsTrue (is_used c id)
 used_from c id low high has = and_from _ _ (and_from _ _ (le-leb 3 id low) (lt-ltb id end_part high)) has
 
 pub none_from : (o : Option ℕ) → is_none o ≡ true → o ≡ None
@@ -33,7 +33,7 @@ none_from (Some k) is = absurd (cc)
 
 -- What is known after this many first blocks.
 pub record Sofar (c : Config) (value : ℕ → Content) (commit : Commit) (count : ℕ) (p : Persist) : Type 0 where
-  pub contents : (id : ℕ) → 3 ≤ id → id < 3 + count → IsTrue (is_used c id) → value (number_of id (index_in commit id)) ≡ bytes (part_bytes p (part_of id))
+  pub contents : (id : ℕ) → 3 ≤ id → id < 3 + count → IsTrue (is_used c id) → value (number_of id (index_in commit id)) ≡ bytes (part_bytes p (part_of_block id))
   pub states_are : AreStatesOf c.events.items p.events.items
   pub summary_is : 0 < count → summary_fits c p ≡ true
   pub few : length p.entries.items ≤ 16
@@ -60,19 +60,19 @@ before_states count k size apart below within = ⊎_elim (λ first_ones. omega (
 
 module _ (c : Config) (value : ℕ → Content) (commit : Commit) (count : ℕ) (p : Persist) (known : Sofar c value commit count p) where
   -- The blocks before stay, and the one that was taken is in the state.
-  contents_more : (held : List ℕ) (q : Persist) → with_part (part_of (3 + count)) held p ≡ q → held ≡ part_bytes q (part_of (3 + count)) → value (number_of (3 + count) (index_in commit (3 + count))) ≡ bytes held
-      → (id : ℕ) → 3 ≤ id → id < 3 + (count + 1) → IsTrue (is_used c id) → value (number_of id (index_in commit id)) ≡ bytes (part_bytes q (part_of id))
+  contents_more : (held : List ℕ) (q : Persist) → with_part (part_of_block (3 + count)) held p ≡ q → held ≡ part_bytes q (part_of_block (3 + count)) → value (number_of (3 + count) (index_in commit (3 + count))) ≡ bytes held
+      → (id : ℕ) → 3 ≤ id → id < 3 + (count + 1) → IsTrue (is_used c id) → value (number_of id (index_in commit id)) ≡ bytes (part_bytes q (part_of_block id))
   contents_more held q gives is content id low below used = elim (cases_lt id (3 + count)) [
     | inl before ↦
-        known.contents id low before used ∙ ap bytes (sym (bytes_kept held p (3 + count) id low before) ∙ ap (λ (r : Persist). part_bytes r (part_of id)) gives)
+        known.contents id low before used ∙ ap bytes (sym (bytes_kept held p (3 + count) id low before) ∙ ap (λ (r : Persist). part_bytes r (part_of_block id)) gives)
     | inr past ↦
         let here : 3 + count ≡ id = omega (arith, below, past) in
-        subst (λ (n : ℕ). value (number_of n (index_in commit n)) ≡ bytes (part_bytes q (part_of n))) here (content ∙ ap bytes is)
+        subst (λ (n : ℕ). value (number_of n (index_in commit n)) ≡ bytes (part_bytes q (part_of_block n))) here (content ∙ ap bytes is)
   ]
 
   -- A summary.
   by_summary : (held : List ℕ) → count ≡ 0 → summary_fits c (with_part Summary held p) ≡ true
-      → ((id : ℕ) → 3 ≤ id → id < 3 + (count + 1) → IsTrue (is_used c id) → value (number_of id (index_in commit id)) ≡ bytes (part_bytes (with_part Summary held p) (part_of id)))
+      → ((id : ℕ) → 3 ≤ id → id < 3 + (count + 1) → IsTrue (is_used c id) → value (number_of id (index_in commit id)) ≡ bytes (part_bytes (with_part Summary held p) (part_of_block id)))
       → Sofar c value commit (count + 1) (with_part Summary held p)
   unfolding with_part with_summary
   by_summary held at fits contents = record {
@@ -87,7 +87,7 @@ module _ (c : Config) (value : ℕ → Content) (commit : Commit) (count : ℕ) 
 
   -- States of sixteen events.
   by_states : (held : List ℕ) (first : ℕ) → 0 < count → (count < 5) ⊎ ((parts_1 ≤ count) × (length p.entries.items ≤ 16)) → states_fit c.events.items (with_states held first 16 p.events.items) first 16 ≡ true
-      → ((id : ℕ) → 3 ≤ id → id < 3 + (count + 1) → IsTrue (is_used c id) → value (number_of id (index_in commit id)) ≡ bytes (part_bytes (with_part (States first) held p) (part_of id)))
+      → ((id : ℕ) → 3 ≤ id → id < 3 + (count + 1) → IsTrue (is_used c id) → value (number_of id (index_in commit id)) ≡ bytes (part_bytes (with_part (States first) held p) (part_of_block id)))
       → Sofar c value commit (count + 1) (with_part (States first) held p)
   unfolding with_part
   by_states held first some apart fits contents = record {
@@ -103,7 +103,7 @@ module _ (c : Config) (value : ℕ → Content) (commit : Commit) (count : ℕ) 
   -- An entry.
   by_entry : (held : List ℕ) (place : ℕ) → place + 5 ≡ count
       → place_fits c.events.items (set p.entries.items place (entry_from held)) place (slice_get (set p.entries.items place (entry_from held)) place) ≡ true
-      → ((id : ℕ) → 3 ≤ id → id < 3 + (count + 1) → IsTrue (is_used c id) → value (number_of id (index_in commit id)) ≡ bytes (part_bytes (with_part (Entry place) held p) (part_of id)))
+      → ((id : ℕ) → 3 ≤ id → id < 3 + (count + 1) → IsTrue (is_used c id) → value (number_of id (index_in commit id)) ≡ bytes (part_bytes (with_part (Entry place) held p) (part_of_block id)))
       → Sofar c value commit (count + 1) (with_part (Entry place) held p)
   unfolding with_part
   by_entry held place at fits contents = record {
@@ -161,10 +161,10 @@ module _ (c : Config) (value : ℕ → Content) (commit : Commit) (count : ℕ) 
 -- ---- one block more
 module _ (c : Config) (value : ℕ → Content) (commit : Commit) (count : ℕ) (p q : Persist) (known : Sofar c value commit count p) where
   -- A used block, by its part.
-  finish : (part : Part) → part_of (3 + count) ≡ part → (held : List ℕ) → with_part (part_of (3 + count)) held p ≡ q → held ≡ part_bytes q (part_of (3 + count)) → part_fits c q (part_of (3 + count)) ≡ true
+  finish : (part : Part) → part_of_block (3 + count) ≡ part → (held : List ℕ) → with_part (part_of_block (3 + count)) held p ≡ q → held ≡ part_bytes q (part_of_block (3 + count)) → part_fits c q (part_of_block (3 + count)) ≡ true
       → value (number_of (3 + count) (index_in commit (3 + count))) ≡ bytes held
       → (part_fits c (with_part part held p) part ≡ true
-      → ((id : ℕ) → 3 ≤ id → id < 3 + (count + 1) → IsTrue (is_used c id) → value (number_of id (index_in commit id)) ≡ bytes (part_bytes (with_part part held p) (part_of id)))
+      → ((id : ℕ) → 3 ≤ id → id < 3 + (count + 1) → IsTrue (is_used c id) → value (number_of id (index_in commit id)) ≡ bytes (part_bytes (with_part part held p) (part_of_block id)))
       → Sofar c value commit (count + 1) (with_part part held p))
       → Sofar c value commit (count + 1) q
   finish part is held gives same fits content make =
@@ -172,13 +172,13 @@ module _ (c : Config) (value : ℕ → Content) (commit : Commit) (count : ℕ) 
       let fits_part : part_fits c (with_part part held p) part ≡ true =
       subst (λ (r : Persist). part_fits c r part ≡ true) (sym gives_part) (subst (λ (x : Part). part_fits c q x ≡ true) is fits) in
       let all = contents_more c value commit count p known held q gives same content in
-      let Contents : Persist → Type 0 = λ r. (id : ℕ) → 3 ≤ id → id < 3 + (count + 1) → IsTrue (is_used c id) → value (number_of id (index_in commit id)) ≡ bytes (part_bytes r (part_of id)) in
+      let Contents : Persist → Type 0 = λ r. (id : ℕ) → 3 ≤ id → id < 3 + (count + 1) → IsTrue (is_used c id) → value (number_of id (index_in commit id)) ≡ bytes (part_bytes r (part_of_block id)) in
       subst (Sofar c value commit (count + 1)) gives_part (make fits_part (subst Contents (sym gives_part) all))
 
-  used_step : (held : List ℕ) → value (number_of (3 + count) (index_in commit (3 + count))) ≡ bytes held → taken c (part_of (3 + count)) held p ≡ Some q → Sofar c value commit (count + 1) q
+  used_step : (held : List ℕ) → value (number_of (3 + count) (index_in commit (3 + count))) ≡ bytes held → taken c (part_of_block (3 + count)) held p ≡ Some q → Sofar c value commit (count + 1) q
   unfolding with_part
   used_step held content is =
-      let t = taken_holds c (part_of (3 + count)) held (with_part (part_of (3 + count)) held p) q is in
+      let t = taken_holds c (part_of_block (3 + count)) held (with_part (part_of_block (3 + count)) held p) q is in
       elim (kind_of (3 + count) (omega arith)) [
         | is_summary at of ↦ finish Summary of held t.0 t.1 t.2 content (λ fits contents. by_summary c value commit count p known held (omega (arith, at)) fits contents)
         | are_states low high of ↦ finish (States (16 * (3 + count - 4))) of held t.0 t.1 t.2 content
@@ -227,7 +227,7 @@ module _ (c : Config) (value : ℕ → Content) (commit : Commit) (count : ℕ) 
           | is_entry low high of ↦ absurd (
               let room : k < c.memory = omega (arith, within, room_of c p (known.summary_is some)) in
               let place : 3 + count - 8 ≡ k = omega (arith, here) in
-              let has : has_part c (part_of (3 + count)) ≡ true =
+              let has : has_part c (part_of_block (3 + count)) ≡ true =
               subst (λ (x : Part). has_part c x ≡ true) (sym of) (subst (λ (n : ℕ). nat_lt n c.memory ≡ true) (sym place) (lt-ltb k c.memory room)) in
               let yes = used_from c (3 + count) (omega arith) (omega (arith, below)) has in cc)
         ]

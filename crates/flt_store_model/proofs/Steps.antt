@@ -12,7 +12,7 @@ use Rattle.flt_config.specs.Durable.{start_state}
 use Rattle.flt_store_model.specs.declared.commit.Commit.{Commit}
 use Rattle.flt_store_model.specs.declared.part.Part.{Part}
 use Rattle.flt_store_model.specs.declared.part.Part.TheVariants.{Summary, States, Entry}
-use Rattle.flt_store_model.specs.Layout.{number_of, part_of, is_used, index_in, later_states_id, first_later_event, states_per_block}
+use Rattle.flt_store_model.specs.Layout.{number_of, part_of_block, is_used, index_in, later_states_id, first_later_event, states_per_block}
 use Rattle.flt_store_model.specs.Form.{summary_bytes, place_bytes, part_bytes}
 use Rattle.flt_store_model.specs.Reading.{with_states, entry_from, with_part, taken}
 use Rattle.flt_store_model.specs.Holding.{Fault, ◌>>=◌, or_damaged, with_content, with_named}
@@ -26,17 +26,17 @@ both_ok (Err fault) next last is = absurd (cc)
 
 -- What the block that a commit names gave.
 pub record Gave (c : Config) (value : ℕ → Content) (commit : Commit) (id : ℕ) (p q : Persist) : Type 0 where
-  pub used : IsTrue (is_used c id) → (held : List ℕ) × (value (number_of id (index_in commit id)) ≡ bytes held) × (taken c (part_of id) held p ≡ Some q)
+  pub used : IsTrue (is_used c id) → (held : List ℕ) × (value (number_of id (index_in commit id)) ≡ bytes held) × (taken c (part_of_block id) held p ≡ Some q)
   pub unused : IsFalse (is_used c id) → q ≡ p
 
 state_given : (id : ℕ) (o : Option Persist) (q : Persist) → or_damaged id o ≡ Ok q → o ≡ Some q
 state_given id None q is = absurd (cc)
 state_given id (Some p) q is = cc
 
-content_given : (c : Config) (id : ℕ) (content : Content) (p q : Persist) → with_content c id content p ≡ Ok q → (held : List ℕ) × (content ≡ bytes held) × (taken c (part_of id) held p ≡ Some q)
+content_given : (c : Config) (id : ℕ) (content : Content) (p q : Persist) → with_content c id content p ≡ Ok q → (held : List ℕ) × (content ≡ bytes held) × (taken c (part_of_block id) held p ≡ Some q)
 content_given c id missing p q is = absurd (cc)
 content_given c id invalid p q is = absurd (cc)
-content_given c id (bytes held) p q is = (held, refl, state_given id (taken c (part_of id) held p) q is)
+content_given c id (bytes held) p q is = (held, refl, state_given id (taken c (part_of_block id) held p) q is)
 
 pub gave : (c : Config) (value : ℕ → Content) (commit : Commit) (id : ℕ) (p q : Persist) → with_named c value commit id p ≡ Ok q → Gave c value commit id p q
 gave c value commit id p q is = record {
@@ -46,10 +46,10 @@ gave c value commit id p q is = record {
 
 -- Which part a block holds.
 pub data Kind (id : ℕ) : Type 0 where
-  is_summary : id ≡ 3 → part_of id ≡ Summary → Kind id
-  are_states : 4 ≤ id → id < 8 → part_of id ≡ States (16 * (id - 4)) → Kind id
-  is_entry : 8 ≤ id → id < later_states_id → part_of id ≡ Entry (id - 8) → Kind id
-  are_later : later_states_id ≤ id → part_of id ≡ States (first_later_event + states_per_block * (id - later_states_id)) → Kind id
+  is_summary : id ≡ 3 → part_of_block id ≡ Summary → Kind id
+  are_states : 4 ≤ id → id < 8 → part_of_block id ≡ States (16 * (id - 4)) → Kind id
+  is_entry : 8 ≤ id → id < later_states_id → part_of_block id ≡ Entry (id - 8) → Kind id
+  are_later : later_states_id ≤ id → part_of_block id ≡ States (first_later_event + states_per_block * (id - later_states_id)) → Kind id
 
 -- The part of a block after the first states, and after the summary.
 abbrev behind_states : ℕ → Part
@@ -62,11 +62,11 @@ pub kind_of : (id : ℕ) → 3 ≤ id → Kind id
 kind_of id low = elim (cases_eq id 3) [
   | inl same ↦ is_summary same (chosen (id == 3) Summary (behind_summary id) (eq-eqb id 3 same))
   | inr other ↦
-      let past : part_of id ≡ behind_summary id = not_chosen (id == 3) Summary (behind_summary id) (ne_eqb id 3 other) in
+      let past : part_of_block id ≡ behind_summary id = not_chosen (id == 3) Summary (behind_summary id) (ne_eqb id 3 other) in
       elim (cases_lt id 8) [
         | inl below ↦ are_states (omega (arith, low, other)) below (past ∙ chosen (nat_lt id 8) (States (16 * (id - 4))) (behind_states id) (lt-ltb id 8 below))
         | inr above ↦
-            let behind : part_of id ≡ behind_states id = past ∙ not_chosen (nat_lt id 8) (States (16 * (id - 4))) (behind_states id) (le-ltb id 8 above) in
+            let behind : part_of_block id ≡ behind_states id = past ∙ not_chosen (nat_lt id 8) (States (16 * (id - 4))) (behind_states id) (le-ltb id 8 above) in
             elim (cases_lt id later_states_id) [
               | inl entry ↦ is_entry above entry (behind ∙ chosen (nat_lt id later_states_id) (Entry (id - 8)) (States (first_later_event + states_per_block * (id - later_states_id))) (lt-ltb id later_states_id entry))
               | inr later ↦ are_later later (behind ∙ not_chosen (nat_lt id later_states_id) (Entry (id - 8)) (States (first_later_event + states_per_block * (id - later_states_id))) (le-ltb id later_states_id later))
@@ -112,7 +112,7 @@ module _ (held : List ℕ) (p : Persist) where
   entry_by_entry place before apart = ap place_bytes (get_other p.entries.items place before (entry_from held) (λ e. omega (arith, apart, e)))
 
 -- A block that is taken leaves the bytes of each block before it.
-pub bytes_kept : (held : List ℕ) (p : Persist) (now id : ℕ) → 3 ≤ id → id < now → part_bytes (with_part (part_of now) held p) (part_of id) ≡ part_bytes p (part_of id)
+pub bytes_kept : (held : List ℕ) (p : Persist) (now id : ℕ) → 3 ≤ id → id < now → part_bytes (with_part (part_of_block now) held p) (part_of_block id) ≡ part_bytes p (part_of_block id)
 bytes_kept held p now id low before =
     elim (kind_of now (omega (arith, low, before))) [
       | is_summary at is ↦ absurd (omega (arith, low, before, at))
@@ -142,8 +142,8 @@ bytes_kept held p now id low before =
           ])
     ]
   where
-    of_now : (part : Part) → part_of now ≡ part → part_bytes (with_part part held p) (part_of id) ≡ part_bytes p (part_of id) → part_bytes (with_part (part_of now) held p) (part_of id) ≡ part_bytes p (part_of id)
-    of_now part is kept = subst (λ (x : Part). part_bytes (with_part x held p) (part_of id) ≡ part_bytes p (part_of id)) (sym is) kept
+    of_now : (part : Part) → part_of_block now ≡ part → part_bytes (with_part part held p) (part_of_block id) ≡ part_bytes p (part_of_block id) → part_bytes (with_part (part_of_block now) held p) (part_of_block id) ≡ part_bytes p (part_of_block id)
+    of_now part is kept = subst (λ (x : Part). part_bytes (with_part x held p) (part_of_block id) ≡ part_bytes p (part_of_block id)) (sym is) kept
 
-    by : (taken_part part : Part) → part_of id ≡ part → part_bytes (with_part taken_part held p) part ≡ part_bytes p part → part_bytes (with_part taken_part held p) (part_of id) ≡ part_bytes p (part_of id)
+    by : (taken_part part : Part) → part_of_block id ≡ part → part_bytes (with_part taken_part held p) part ≡ part_bytes p part → part_bytes (with_part taken_part held p) (part_of_block id) ≡ part_bytes p (part_of_block id)
     by taken_part part of same = subst (λ (x : Part). part_bytes (with_part taken_part held p) x ≡ part_bytes p x) (sym of) same

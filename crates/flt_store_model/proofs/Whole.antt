@@ -14,7 +14,7 @@ use Rattle.flt_config.specs.Durable.{Fits, IsEntryOf, initial_state, is_of_event
 use Rattle.flt_store_model.specs.declared.commit.Commit.{Commit}
 use Rattle.flt_store_model.specs.declared.part.Part.{Part}
 use Rattle.flt_store_model.specs.declared.part.Part.TheVariants.{Summary, States, Entry}
-use Rattle.flt_store_model.specs.Layout.{number_of, part_of, has_part, is_used, index_in, parts, end_part, later_states_id, first_later_event, states_per_block}
+use Rattle.flt_store_model.specs.Layout.{number_of, part_of_block, has_part, is_used, index_in, parts, end_part, later_states_id, first_later_event, states_per_block}
 use Rattle.flt_store_model.specs.Form.{summary_bytes, states_bytes, entry_bytes, place_bytes, part_bytes, parts_1}
 use Rattle.flt_store_model.specs.Fit.{is_alone, place_fits, summary_fits, states_fit, entry_fits_at, note_fits, part_fits}
 use Rattle.flt_store_model.specs.Reading.{with_part, with_summary, entry_from, with_states, untaken_entry, taken, if_holds}
@@ -256,7 +256,7 @@ module _ (c : Config) (sizes : HasSizes c) (p : Persist) (one_each : length p.ev
     | are_states low high of ↦
         let last : length c.events.items ≤ 16 * (3 + count - 4) = elim (cases_lt (16 * (3 + count - 4)) (length c.events.items)) [
           | inl within ↦ absurd (
-              let has : has_part c (part_of (3 + count)) ≡ true = subst (λ (x : Part). has_part c x ≡ true) (sym of) (lt-ltb (16 * (3 + count - 4)) (length c.events.items) within) in
+              let has : has_part c (part_of_block (3 + count)) ≡ true = subst (λ (x : Part). has_part c x ≡ true) (sym of) (lt-ltb (16 * (3 + count - 4)) (length c.events.items) within) in
               let yes = used_from c (3 + count) (omega arith) (omega (arith, below)) has in cc)
           | inr past ↦ past
         ] in
@@ -271,7 +271,7 @@ module _ (c : Config) (sizes : HasSizes c) (p : Persist) (one_each : length p.ev
     | are_later low of ↦
         let last : length c.events.items ≤ first_later_event + states_per_block * (3 + count - later_states_id) = elim (cases_lt (first_later_event + states_per_block * (3 + count - later_states_id)) (length c.events.items)) [
           | inl within ↦ absurd (
-              let has : has_part c (part_of (3 + count)) ≡ true = subst (λ (x : Part). has_part c x ≡ true) (sym of) (lt-ltb (first_later_event + states_per_block * (3 + count - later_states_id)) (length c.events.items) within) in
+              let has : has_part c (part_of_block (3 + count)) ≡ true = subst (λ (x : Part). has_part c x ≡ true) (sym of) (lt-ltb (first_later_event + states_per_block * (3 + count - later_states_id)) (length c.events.items) within) in
               let yes = used_from c (3 + count) (omega arith) (omega (arith, below)) has in cc)
           | inr past ↦ past
         ] in
@@ -286,7 +286,7 @@ module _ (c : Config) (sizes : HasSizes c) (p : Persist) (one_each : length p.ev
     | is_entry low high of ↦
         let last : c.memory ≤ 3 + count - 8 = elim (cases_lt (3 + count - 8) c.memory) [
           | inl within ↦ absurd (
-              let has : has_part c (part_of (3 + count)) ≡ true = subst (λ (x : Part). has_part c x ≡ true) (sym of) (lt-ltb (3 + count - 8) c.memory within) in
+              let has : has_part c (part_of_block (3 + count)) ≡ true = subst (λ (x : Part). has_part c x ≡ true) (sym of) (lt-ltb (3 + count - 8) c.memory within) in
               let yes = used_from c (3 + count) (omega arith) (omega (arith, below)) has in cc)
           | inr past ↦ past
         ] in
@@ -301,8 +301,8 @@ module _ (c : Config) (sizes : HasSizes c) (p : Persist) (one_each : length p.ev
   ]
 
   -- ---- a block that holds its bytes of the state
-  pub block_given : (count : ℕ) (q : Persist) → count < parts → (0 < count → length p.entries.items ≤ 16) → part_fits c p (part_of (3 + count)) ≡ true → Agrees count q p
-      → (r : Persist) × (taken c (part_of (3 + count)) (part_bytes p (part_of (3 + count))) q ≡ Some r) × Agrees (count + 1) r p
+  pub block_given : (count : ℕ) (q : Persist) → count < parts → (0 < count → length p.entries.items ≤ 16) → part_fits c p (part_of_block (3 + count)) ≡ true → Agrees count q p
+      → (r : Persist) × (taken c (part_of_block (3 + count)) (part_bytes p (part_of_block (3 + count))) q ≡ Some r) × Agrees (count + 1) r p
   block_given count q below short fits agrees = elim (kind_of (3 + count) (omega arith)) [
     | is_summary at of ↦
         let here : count ≡ 0 = omega (arith, at) in (
@@ -344,13 +344,13 @@ module _ (c : Config) (sizes : HasSizes c) (p : Persist) (one_each : length p.ev
         ]
   ]
     where
-      of_part : (part : Part) (r : Persist) → part_of (3 + count) ≡ part → taken c part (part_bytes p part) q ≡ Some r → taken c (part_of (3 + count)) (part_bytes p (part_of (3 + count))) q ≡ Some r
+      of_part : (part : Part) (r : Persist) → part_of_block (3 + count) ≡ part → taken c part (part_bytes p part) q ≡ Some r → taken c (part_of_block (3 + count)) (part_bytes p (part_of_block (3 + count))) q ≡ Some r
       of_part part r of is = subst (λ (x : Part). taken c x (part_bytes p x) q ≡ Some r) (sym of) is
 
-      fits_of : (part : Part) → part_of (3 + count) ≡ part → part_fits c p part ≡ true
+      fits_of : (part : Part) → part_of_block (3 + count) ≡ part → part_fits c p part ≡ true
       fits_of part of = subst (λ (x : Part). part_fits c p x ≡ true) of fits
 
-      entry_fit : (place : ℕ) (entry : EntryState) → slice_get p.entries.items place ≡ Some entry → part_of (3 + count) ≡ Entry place
+      entry_fit : (place : ℕ) (entry : EntryState) → slice_get p.entries.items place ≡ Some entry → part_of_block (3 + count) ≡ Entry place
           → (entry_fits_at (slice_get c.events.items entry.event) entry && is_alone p.entries.items place entry.event) ≡ true
       entry_fit place entry found of = subst (λ (o : Option EntryState). place_fits c.events.items p.entries.items place o ≡ true) found (fits_of (Entry place) of)
 
@@ -424,7 +424,7 @@ whole_read c sizes value commit p fits blocks =
     let stands : HoldBelow c value commit end_part p = record {
       one_each = fits.states.one_each;
       blocks = λ id used below. blocks id used;
-      fits = λ id used below. part_of_fitting c p fits (part_of id);
+      fits = λ id used below. part_of_fitting c p fits (part_of_block id);
     } in
     let whole = blocks_read c sizes p fits.states.one_each value commit end_part (omega arith) stands parts (omega arith) in
     whole.1 ∙ ap Ok (all_agree c sizes p fits.states.one_each whole.0 fits.room whole.2)

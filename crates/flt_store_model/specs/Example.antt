@@ -10,8 +10,8 @@ use Rattle.flt_store_model.specs.Layout.{number_of}
 use Rattle.flt_store_model.specs.Holding.{Generation, Fault, held, spare}
 
 -- An event whose frames have two bytes.
-abbrev pub event : EventCfg
-event = record {
+abbrev pub two_byte_event : EventCfg
+two_byte_event = record {
   dtc = 0x000100;
   priority = 1;
   cycle = 0;
@@ -26,15 +26,15 @@ event = record {
 
 -- Configuration 7 has one event, room for one entry, no application block and 64 pages.
 abbrev pub small : Config
-small = record { id = 7; memory = 1; pages = 64; blocks = 0; events = record { items = event ∷ [] } }
+small = record { id = 7; memory = 1; pages = 64; blocks = 0; events = record { items = two_byte_event ∷ [] } }
 
 -- It has 65 events and 96 pages.
 abbrev pub many : Config
-many = record { id = 7; memory = 1; pages = 96; blocks = 0; events = record { items = replicate 65 event } }
+many = record { id = 7; memory = 1; pages = 96; blocks = 0; events = record { items = replicate 65 two_byte_event } }
 
 -- It has four events, the third of which has an indicator.
 abbrev pub four : Config
-four = record { id = 7; memory = 1; pages = 64; blocks = 0; events = record { items = event ∷ event ∷ record event { indicator = true } ∷ event ∷ [] } }
+four = record { id = 7; memory = 1; pages = 64; blocks = 0; events = record { items = two_byte_event ∷ two_byte_event ∷ record two_byte_event { indicator = true } ∷ two_byte_event ∷ [] } }
 
 -- The mark of one event, in version 2 and in version 1, and the mark of configuration 8.
 abbrev pub own_mark : Content
@@ -52,8 +52,8 @@ commit generation bits = bytes (0x02 ∷ 0x00 ∷ 0x00 ∷ 0x00 ∷ generation �
 
 -- The same in version 1, with the indices of those blocks.
 abbrev pub old_commit : ℕ → ℕ → ℕ → ℕ → Content
-old_commit generation summary states entry =
-    bytes (0x01 ∷ 0x00 ∷ 0x00 ∷ 0x00 ∷ generation ∷ summary ∷ states ∷ 0xFF ∷ 0xFF ∷ 0xFF ∷ entry ∷ replicate 15 0xFF)
+old_commit generation summary states entry_content =
+    bytes (0x01 ∷ 0x00 ∷ 0x00 ∷ 0x00 ∷ generation ∷ summary ∷ states ∷ 0xFF ∷ 0xFF ∷ 0xFF ∷ entry_content ∷ replicate 15 0xFF)
 
 -- A summary with one entry, and with the event in each note.
 abbrev pub summary : Content
@@ -64,9 +64,9 @@ abbrev pub states : ℕ → Content
 states status = bytes (status ∷ 0x01 ∷ 0x00 ∷ 0x00 ∷ concat (replicate 15 (0x50 ∷ 0x00 ∷ 0x00 ∷ 0x00 ∷ [])))
 
 -- An entry of an event, with this occurrence, a first frame 01 02 and this recent one.
-abbrev pub entry : ℕ → ℕ → List ℕ → Content
-entry event occurrence recent =
-    bytes (0x00 ∷ event ∷ occurrence ∷ 0x02 ∷ 0x01 ∷ 0x02 ∷ (replicate 30 0x00 ++ recent ++ replicate 30 0x00))
+abbrev pub entry_content : ℕ → ℕ → List ℕ → Content
+entry_content two_byte_event occurrence recent =
+    bytes (0x00 ∷ two_byte_event ∷ occurrence ∷ 0x02 ∷ 0x01 ∷ 0x02 ∷ (replicate 30 0x00 ++ recent ++ replicate 30 0x00))
 
 -- The state of the event after it failed this many times, with this status and this recent frame.
 abbrev pub failed_state : ℕ → ℕ → List ℕ → Persist

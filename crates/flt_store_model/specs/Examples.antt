@@ -7,28 +7,28 @@ use Rattle.flt_store_model.specs.declared.place.Place.TheVariants.{Block}
 use Rattle.flt_store_model.specs.Form.{block_bytes}
 use Rattle.flt_store_model.specs.Holding.{Generation, Fault, damaged, other, first_generation}
 use Rattle.flt_store_model.specs.Successor.{changed_pages}
-use Rattle.flt_store_model.specs.Example.{small, four, many, own_mark, old_mark, other_mark, commit, old_commit, summary, states, entry, failed_state, Kept, block, Judged, judged, AreJudged}
+use Rattle.flt_store_model.specs.Example.{small, four, many, own_mark, old_mark, other_mark, commit, old_commit, summary, states, entry_content, failed_state, Kept, block, Judged, judged, AreJudged}
 
 -- The event failed once in generation 1, and twice in generation 2.
-abbrev pub first : Generation
-first = record { number = 1; state = failed_state 0x2F 1 (0x01 ∷ 0x02 ∷ []) }
+abbrev pub generation_one : Generation
+generation_one = record { number = 1; state = failed_state 0x2F 1 (0x01 ∷ 0x02 ∷ []) }
 
-abbrev pub second : Generation
-second = record { number = 2; state = failed_state 0x2F 2 (0x03 ∷ 0x04 ∷ []) }
+abbrev pub generation_two : Generation
+generation_two = record { number = 2; state = failed_state 0x2F 2 (0x03 ∷ 0x04 ∷ []) }
 
 -- The entry of generation 1.
 abbrev pub first_entry : Content
-first_entry = entry 0 1 (0x01 ∷ 0x02 ∷ [])
+first_entry = entry_content 0 1 (0x01 ∷ 0x02 ∷ [])
 
 -- Its blocks, where the summary and the states are unchanged and the entry changed.
-abbrev pub blocks : List Kept
-blocks =
+abbrev pub own_blocks : List Kept
+own_blocks =
     block 1 0 own_mark ∷ block 3 0 summary ∷ block 4 0 (states 0x2F)
-    ∷ block 8 0 first_entry ∷ block 8 1 (entry 0 2 (0x03 ∷ 0x04 ∷ [])) ∷ []
+    ∷ block 8 0 first_entry ∷ block 8 1 (entry_content 0 2 (0x03 ∷ 0x04 ∷ [])) ∷ []
 
 -- With these copies of the commit.
 abbrev pub with_copies : Content → Content → List Kept
-with_copies copy_1 copy_2 = block 2 0 copy_1 ∷ block 2 1 copy_2 ∷ blocks
+with_copies copy_1 copy_2 = block 2 0 copy_1 ∷ block 2 1 copy_2 ∷ own_blocks
 
 abbrev pub first_commit : Content
 first_commit = commit 1 0x00
@@ -41,24 +41,24 @@ second_commit = commit 2 0x20
 abbrev pub CopiesOfCommit : Type 0
 CopiesOfCommit =
     AreJudged small
-    (judged (with_copies first_commit first_commit) (Ok first) (Ok first)
-    ∷ judged (with_copies second_commit first_commit) (Ok second) (Ok first)
-    ∷ judged (with_copies second_commit second_commit) (Ok second) (Ok second)
-    ∷ judged (with_copies first_commit missing) (Ok first) (Ok (first_generation small))
-    ∷ judged (with_copies invalid second_commit) (Ok second) (Ok second)
-    ∷ judged (with_copies missing second_commit) (Ok second) (Ok second)
+    (judged (with_copies first_commit first_commit) (Ok generation_one) (Ok generation_one)
+    ∷ judged (with_copies second_commit first_commit) (Ok generation_two) (Ok generation_one)
+    ∷ judged (with_copies second_commit second_commit) (Ok generation_two) (Ok generation_two)
+    ∷ judged (with_copies first_commit missing) (Ok generation_one) (Ok (first_generation small))
+    ∷ judged (with_copies invalid second_commit) (Ok generation_two) (Ok generation_two)
+    ∷ judged (with_copies missing second_commit) (Ok generation_two) (Ok generation_two)
     ∷ judged (with_copies missing invalid) (Ok (first_generation small)) (Ok (first_generation small))
     ∷ judged (with_copies invalid missing) (Err (damaged (Block 2))) (Ok (first_generation small))
     ∷ judged [] (Ok (first_generation small)) (Ok (first_generation small))
     ∷ [])
 
 -- Four records of 128 bytes that no generation of this configuration has; their 24 pages are what it leaves.
-abbrev pub beyond : List Kept
-beyond = map (λ id. block id 0 (bytes (replicate 128 0))) (9 ∷ 10 ∷ 11 ∷ 12 ∷ [])
+abbrev pub beyond_records : List Kept
+beyond_records = map (λ id. block id 0 (bytes (replicate 128 0))) (9 ∷ 10 ∷ 11 ∷ 12 ∷ [])
 
 -- And one more.
 abbrev pub much_beyond : List Kept
-much_beyond = block 13 0 (bytes (replicate 128 0)) ∷ beyond
+much_beyond = block 13 0 (bytes (replicate 128 0)) ∷ beyond_records
 
 -- And an invalid application block, and one that is too long.
 abbrev pub bad_applications : List Kept
@@ -89,11 +89,11 @@ FaultsInOrder =
     ∷ faulty (standing own_mark first_commit summary invalid missing bad_applications) (damaged (Block 4))
     ∷ faulty (standing own_mark first_commit summary (states 0xAF) missing bad_applications) (damaged (Block 4))
     ∷ faulty (standing own_mark first_commit summary (states 0x2F) missing bad_applications) (damaged (Block 8))
-    ∷ faulty (standing own_mark first_commit summary (states 0x2F) (entry 1 1 (0x01 ∷ 0x02 ∷ [])) bad_applications) (damaged (Block 8))
+    ∷ faulty (standing own_mark first_commit summary (states 0x2F) (entry_content 1 1 (0x01 ∷ 0x02 ∷ [])) bad_applications) (damaged (Block 8))
     ∷ faulty (standing own_mark first_commit summary (states 0x2F) first_entry bad_applications) (damaged (Block 64))
     ∷ faulty (standing own_mark first_commit summary (states 0x2F) first_entry (block 64 0 missing ∷ bad_applications)) (damaged (Block 65))
     ∷ faulty (standing own_mark first_commit summary (states 0x2F) first_entry much_beyond) (damaged (Block 0))
-    ∷ judged (standing own_mark first_commit summary (states 0x2F) first_entry beyond) (Ok first) (Ok first)
+    ∷ judged (standing own_mark first_commit summary (states 0x2F) first_entry beyond_records) (Ok generation_one) (Ok generation_one)
     ∷ [])
 
 -- Generation 1 as an image of version 1 has it: each byte of an index is where the block is.
@@ -120,16 +120,16 @@ abbrev pub OldImages : Type 0
 OldImages =
     AreJudged small
     (judged (old_blocks missing missing) (Ok (first_generation small)) (Ok (first_generation small))
-    ∷ judged (old_blocks old_first_commit missing) (Ok first) (Ok (first_generation small))
-    ∷ judged (old_blocks old_first_commit old_first_commit) (Ok first) (Ok first)
-    ∷ judged (old_blocks old_second_commit old_first_commit) (Ok second) (Ok first)
-    ∷ judged (with_copies old_first_commit old_first_commit) (Ok first) (Ok first)
-    ∷ judged (with_copies second_commit old_first_commit) (Ok second) (Ok first)
-    ∷ judged (with_copies invalid old_first_commit) (Ok first) (Ok first)
-    ∷ judged (with_copies second_commit second_commit) (Ok second) (Ok second)
-    ∷ judged (with_copies old_first_commit first_commit) (Ok first) (Ok first)
-    ∷ judged (with_copies first_commit old_first_commit) (Ok first) (Ok first)
-    ∷ judged (old_blocks first_commit first_commit) (Ok first) (Ok first)
+    ∷ judged (old_blocks old_first_commit missing) (Ok generation_one) (Ok (first_generation small))
+    ∷ judged (old_blocks old_first_commit old_first_commit) (Ok generation_one) (Ok generation_one)
+    ∷ judged (old_blocks old_second_commit old_first_commit) (Ok generation_two) (Ok generation_one)
+    ∷ judged (with_copies old_first_commit old_first_commit) (Ok generation_one) (Ok generation_one)
+    ∷ judged (with_copies second_commit old_first_commit) (Ok generation_two) (Ok generation_one)
+    ∷ judged (with_copies invalid old_first_commit) (Ok generation_one) (Ok generation_one)
+    ∷ judged (with_copies second_commit second_commit) (Ok generation_two) (Ok generation_two)
+    ∷ judged (with_copies old_first_commit first_commit) (Ok generation_one) (Ok generation_one)
+    ∷ judged (with_copies first_commit old_first_commit) (Ok generation_one) (Ok generation_one)
+    ∷ judged (old_blocks first_commit first_commit) (Ok generation_one) (Ok generation_one)
     ∷ faulty (with_copies (old_commit 0 0 0 0) (old_commit 0 0 0 0)) (damaged (Block 2))
     ∷ faulty (with_copies (old_commit 1 0 0 2) (old_commit 1 0 0 2)) (damaged (Block 2))
     ∷ faulty (with_copies (old_commit 1 0 0xFF 0) (old_commit 1 0 0xFF 0)) (damaged (Block 2))
@@ -167,7 +167,7 @@ of_four version both overflow =
     ∷ block 3 0 (bytes (0x01 ∷ overflow ∷ 0x01 ∷ 0x00 ∷ 0x00 ∷ 0x01 ∷ 0x00 ∷ 0x03 ∷ 0x00 ∷ 0x00 ∷ 0x00 ∷ 0x02 ∷ replicate 20 0x00))
     ∷ block 4 0 (bytes (0x2F ∷ 0x01 ∷ 0x00 ∷ 0x00 ∷ 0x26 ∷ 0x02 ∷ 0x00 ∷ 0x00 ∷ 0x28 ∷ 0x03 ∷ 0x81 ∷ 0x02 ∷ 0x28 ∷ 0xFF ∷ 0x00 ∷ 0x05
     ∷ concat (replicate 12 (0x50 ∷ 0x00 ∷ 0x00 ∷ 0x00 ∷ []))))
-    ∷ block 8 0 (entry 2 254 (0x03 ∷ 0x04 ∷ [])) ∷ []
+    ∷ block 8 0 (entry_content 2 254 (0x03 ∷ 0x04 ∷ [])) ∷ []
 
 -- Where each field is in the bytes, in both versions of the image; and an overflow is 00 or 01.
 abbrev pub EachField : Type 0
@@ -179,8 +179,8 @@ EachField =
     ∷ [])
 
 -- The last of 65 events failed once: its state is the first of block 24, which the commit names at index 1.
-abbrev pub last_failed : Generation
-last_failed = record {
+abbrev pub last_event_failed : Generation
+last_event_failed = record {
   number = 1;
   state = record {
     events = record { items = replicate 64 start_state ++ record { status = 0x2F; failed = 1; clean = 0; lit = false } ∷ [] };
@@ -206,13 +206,13 @@ of_many both later =
     ∷ block 2 0 (bytes both) ∷ block 2 1 (bytes both)
     ∷ block 3 0 (bytes (0x01 ∷ 0x00 ∷ 0x01 ∷ 0x00 ∷ 0x00 ∷ 0x40 ∷ 0x00 ∷ 0x40 ∷ 0x00 ∷ 0x40 ∷ 0x00 ∷ 0x40 ∷ replicate 20 0x00))
     ∷ map (λ id. block id 0 start_states) (4 ∷ 5 ∷ 6 ∷ 7 ∷ [])
-    ++ block 8 0 (entry 0x40 1 (0x01 ∷ 0x02 ∷ [])) ∷ block 24 1 later ∷ []
+    ++ block 8 0 (entry_content 0x40 1 (0x01 ∷ 0x02 ∷ [])) ∷ block 24 1 later ∷ []
 
 -- The commit names block 24 at index 1; block 25, which is not used, has no index; and version 1 has no index for block 24.
 abbrev pub ManyEvents : Type 0
 ManyEvents =
     AreJudged many
-    (judged (of_many (0x02 ∷ 0x00 ∷ 0x00 ∷ 0x00 ∷ 0x01 ∷ 0x00 ∷ 0x00 ∷ 0x20 ∷ 0x00 ∷ 0x00 ∷ []) (states 0x2F)) (Ok last_failed) (Ok last_failed)
+    (judged (of_many (0x02 ∷ 0x00 ∷ 0x00 ∷ 0x00 ∷ 0x01 ∷ 0x00 ∷ 0x00 ∷ 0x20 ∷ 0x00 ∷ 0x00 ∷ []) (states 0x2F)) (Ok last_event_failed) (Ok last_event_failed)
     ∷ faulty (of_many (0x02 ∷ 0x00 ∷ 0x00 ∷ 0x00 ∷ 0x01 ∷ 0x00 ∷ 0x00 ∷ 0x20 ∷ 0x00 ∷ 0x00 ∷ []) missing) (damaged (Block 24))
     ∷ faulty (of_many (0x02 ∷ 0x00 ∷ 0x00 ∷ 0x00 ∷ 0x01 ∷ 0x00 ∷ 0x00 ∷ 0x60 ∷ 0x00 ∷ 0x00 ∷ []) (states 0x2F)) (damaged (Block 2))
     ∷ faulty (of_many (0x02 ∷ 0x00 ∷ 0x00 ∷ 0x00 ∷ 0x01 ∷ 0x00 ∷ 0x00 ∷ 0x20 ∷ 0x00 ∷ 0x02 ∷ []) (states 0x2F)) (damaged (Block 2))
@@ -223,5 +223,5 @@ ManyEvents =
 -- before also the 3 of the summary and the 4 of the states.
 abbrev pub ChangedPages : Type 0
 ChangedPages =
-    map (λ before. changed_pages small before (block_bytes second.state)) (block_bytes second.state ∷ block_bytes first.state ∷ (λ id. []) ∷ [])
+    map (λ before. changed_pages small before (block_bytes generation_two.state)) (block_bytes generation_two.state ∷ block_bytes generation_one.state ∷ (λ id. []) ∷ [])
     ≡ 0 ∷ 5 ∷ 12 ∷ []

@@ -4,7 +4,7 @@ use Rattle.flt_config.specs.declared.config.Config.{Config}
 use Rattle.flt_config.specs.Validity.{needed_pages}
 use Rattle.flt_flash.specs.Content.{Content}
 use Rattle.flt_flash.specs.Blocks.{pages_of, record_pages}
-use Rattle.flt_store_model.specs.Layout.{numbers, id_of, index_of, mark_number, first_commit, second_commit, first_application, is_used, part_of}
+use Rattle.flt_store_model.specs.Layout.{numbers, id_of, index_of, mark_number, first_commit, second_commit, first_application, is_used, part_of_block}
 use Rattle.flt_store_model.specs.Form.{part_length, mark_length, commit_length, application_length}
 
 -- A number of a block of this configuration: an index of a used one, or an application block.
@@ -19,7 +19,7 @@ unfoldable pub own_pages : Config → ℕ → ℕ
 own_pages c number =
     if number == mark_number then record_pages mark_length
     else if (number == first_commit) || (number == second_commit) then record_pages commit_length
-    else if is_own_part c number then record_pages (part_length (part_of (id_of number)))
+    else if is_own_part c number then record_pages (part_length (part_of_block (id_of number)))
     else if is_own_application c number then record_pages application_length
     else 0
 

@@ -6,7 +6,7 @@ use Rattle.flt_config.specs.declared.persist.Persist.{Persist}
 use Rattle.flt_store_model.specs.declared.mark.Mark.{Mark}
 use Rattle.flt_store_model.specs.declared.commit.Commit.{Commit}
 use Rattle.flt_store_model.specs.declared.place.Place.TheVariants.{Page, Block}
-use Rattle.flt_store_model.specs.Layout.{mark_id, commit_id, first_application, applications, number_of, mark_number, application_number, part_of, is_used, index_in}
+use Rattle.flt_store_model.specs.Layout.{mark_id, commit_id, first_application, applications, number_of, mark_number, application_number, part_of_block, is_used, index_in}
 use Rattle.flt_store_model.specs.Form.{mark_of, block_bytes, IsMark, IsCommit, IsBytesOfMark, IsBytesOfCommit}
 use Rattle.flt_store_model.specs.Fit.{part_fits}
 use Rattle.flt_store_model.specs.Excess.{IsBorne}
@@ -35,7 +35,7 @@ pub data IsCommitDamaged (c : Config) (commit : Content) : Type 0 where
 pub record HoldBelow (c : Config) (value : ℕ → Content) (commit : Commit) (bound : ℕ) (state : Persist) : Type 0 where
   pub one_each : length state.events.items ≡ length c.events.items
   pub blocks : (id : ℕ) → IsTrue (is_used c id) → id < bound → value (number_of id (index_in commit id)) ≡ bytes (block_bytes state id)
-  pub fits : (id : ℕ) → IsTrue (is_used c id) → id < bound → IsTrue (part_fits c state (part_of id))
+  pub fits : (id : ℕ) → IsTrue (is_used c id) → id < bound → IsTrue (part_fits c state (part_of_block id))
 
 -- There is a commit, and the blocks up to this used one do not hold the parts of any state.
 pub record IsPartDamaged (c : Config) (value : ℕ → Content) (commit : Content) (id : ℕ) : Type 0 where

@@ -11,7 +11,7 @@ use Rattle.flt_store_model.specs.declared.mark.Mark.{Mark}
 use Rattle.flt_store_model.specs.declared.commit.Commit.{Commit}
 use Rattle.flt_store_model.specs.declared.part.Part.{Part}
 use Rattle.flt_store_model.specs.declared.part.Part.TheVariants.{Summary, States, Entry}
-use Rattle.flt_store_model.specs.Layout.{first_part, end_part, parts, later_states_id, later_states_blocks, states_per_block, part_of, is_used, index_in}
+use Rattle.flt_store_model.specs.Layout.{first_part, end_part, parts, later_states_id, later_states_blocks, states_per_block, part_of_block, is_used, index_in}
 
 abbrev pub be16 : ℕ → List ℕ
 be16 = to_be_bytes w16
@@ -146,7 +146,7 @@ part_bytes p (Entry place) = place_bytes (slice_get p.entries.items place)
 
 -- The bytes of a used block of a state.
 abbrev pub block_bytes : Persist → ℕ → List ℕ
-block_bytes p id = part_bytes p (part_of id)
+block_bytes p id = part_bytes p (part_of_block id)
 
 -- The number of bytes that the mark, the summary, a block of states and an entry have, that a commit may have and has in version 2, and that
 -- an application block may have.

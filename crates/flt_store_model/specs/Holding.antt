@@ -10,7 +10,7 @@ use Rattle.flt_store_model.specs.declared.mark.Mark.{Mark}
 use Rattle.flt_store_model.specs.declared.commit.Commit.{Commit}
 use Rattle.flt_store_model.specs.declared.place.Place.{Place}
 use Rattle.flt_store_model.specs.declared.place.Place.TheVariants.{Block}
-use Rattle.flt_store_model.specs.Layout.{mark_id, commit_id, first_part, parts, first_application, applications, number_of, mark_number, first_commit, second_commit, application_number, part_of, is_used, index_in}
+use Rattle.flt_store_model.specs.Layout.{mark_id, commit_id, first_part, parts, first_application, applications, number_of, mark_number, first_commit, second_commit, application_number, part_of_block, is_used, index_in}
 use Rattle.flt_store_model.specs.Form.{mark_of, application_length, block_bytes, IsCommit, IsBytesOfCommit, IsBytesOfMark}
 use Rattle.flt_store_model.specs.Reading.{mark_in, commit_in, taken}
 use Rattle.flt_store_model.specs.Excess.{excess, IsBorne}
@@ -67,7 +67,7 @@ or_damaged id (Some p) = Ok p
 abbrev pub with_content : Config → ℕ → Content → Persist → Result Persist Fault
 with_content c id missing p = damaged_at id
 with_content c id invalid p = damaged_at id
-with_content c id (bytes held) p = or_damaged id (taken c (part_of id) held p)
+with_content c id (bytes held) p = or_damaged id (taken c (part_of_block id) held p)
 
 -- The state with the part in the block that the commit names, if it is used.
 abbrev pub with_named : Config → (ℕ → Content) → Commit → ℕ → Persist → Result Persist Fault

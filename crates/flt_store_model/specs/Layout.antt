@@ -29,11 +29,11 @@ states_blocks = 4
 abbrev pub first_entry_id : ℕ
 first_entry_id = 8
 
-abbrev pub entries : ℕ
-entries = 16
+abbrev pub most_entries : ℕ
+most_entries = 16
 
 abbrev pub later_states_id : ℕ
-later_states_id = first_entry_id + entries
+later_states_id = first_entry_id + most_entries
 
 abbrev pub later_states_blocks : ℕ
 later_states_blocks = 12
@@ -97,8 +97,8 @@ numbers =
     ++ map application_number (range_with_len 0 applications)
 
 -- The part that a block holds: the summary, the states of some events, an entry.
-abbrev pub part_of : ℕ → Part
-part_of id =
+abbrev pub part_of_block : ℕ → Part
+part_of_block id =
     if id == summary_id then Summary
     else if nat_lt id first_entry_id then States (states_per_block * (id - first_states_id))
     else if nat_lt id later_states_id then Entry (id - first_entry_id)
@@ -112,7 +112,7 @@ has_part c (Entry place) = nat_lt place c.memory
 
 -- A block that each generation of this configuration has.
 abbrev pub is_used : Config → ℕ → Bool
-is_used c id = nat_le first_part id && nat_lt id end_part && has_part c (part_of id)
+is_used c id = nat_le first_part id && nat_lt id end_part && has_part c (part_of_block id)
 
 -- Those blocks, in ascending order.
 unfoldable pub used_ids : Config → List ℕ

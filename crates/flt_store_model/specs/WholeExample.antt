@@ -15,15 +15,15 @@ pieces zero held = []
 pieces (suc left) held = piece (take 32 held) ∷ pieces left (drop 32 held)
 
 -- The record at a page that gives a number this content: a head, the bytes, a gate.
-abbrev pub record_at : ℕ → ℕ → Content → List (List ℕ)
-record_at page number missing = []
-record_at page number invalid = says (Head number 0 false page) ∷ says (Gate number page) ∷ []
-record_at page number (bytes held) = says (Head number (length held) true page) ∷ (pieces (byte_pages (length held)) held ++ says (Gate number page) ∷ [])
+abbrev pub record_pages_at : ℕ → ℕ → Content → List (List ℕ)
+record_pages_at page number missing = []
+record_pages_at page number invalid = says (Head number 0 false page) ∷ says (Gate number page) ∷ []
+record_pages_at page number (bytes held) = says (Head number (length held) true page) ∷ (pieces (byte_pages (length held)) held ++ says (Gate number page) ∷ [])
 
 -- Records one behind the other, from a page on.
 abbrev pub records : ℕ → List Kept → List (List ℕ)
 records page [] = []
-records page (kept ∷ rest) = record_at page kept.number kept.content ++ records (page + record_pages (size_of kept.content)) rest
+records page (kept ∷ rest) = record_pages_at page kept.number kept.content ++ records (page + record_pages (size_of kept.content)) rest
 
 -- An image, and what it holds by either copy of its commit.
 pub record Judged : Type 0 where

@@ -7,23 +7,23 @@ use Rattle.flt_store_model.specs.Layout.{is_used, index_in}
 use Rattle.flt_store_model.specs.Form.{summary_bytes, entry_bytes, block_bytes}
 use Rattle.flt_store_model.specs.Successor.{IsPlaced, IsNext}
 use Rattle.flt_store_model.specs.Example.{many}
-use Rattle.flt_store_tests.specs.CommitExamples.{once, twice}
+use Rattle.flt_store_tests.specs.CommitExamples.{once, failed_twice}
 
 -- The bytes of the entry differ at the count of its occurrences.
-pub other_entry : block_bytes once 8 ≢ block_bytes twice 8
+pub other_entry : block_bytes once 8 ≢ block_bytes failed_twice 8
 unfolding entry_bytes
 other_entry same = let counts : 1 ≡ 2 = ap (λ (held : List ℕ). slice_index held 2) same in omega (arith, counts)
 
-pub other_entry_back : block_bytes twice 8 ≢ block_bytes once 8
+pub other_entry_back : block_bytes failed_twice 8 ≢ block_bytes once 8
 unfolding entry_bytes
 other_entry_back same = let counts : 2 ≡ 1 = ap (λ (held : List ℕ). slice_index held 2) same in omega (arith, counts)
 
 -- Those of the summary are the same.
-pub same_summary : block_bytes once 3 ≡ block_bytes twice 3
+pub same_summary : block_bytes once 3 ≡ block_bytes failed_twice 3
 unfolding summary_bytes
 same_summary = refl
 
-pub same_summary_back : block_bytes twice 3 ≡ block_bytes once 3
+pub same_summary_back : block_bytes failed_twice 3 ≡ block_bytes once 3
 unfolding summary_bytes
 same_summary_back = refl
 

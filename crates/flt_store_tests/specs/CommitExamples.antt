@@ -11,23 +11,23 @@ use Rattle.flt_store_model.specs.Reading.{commit_in}
 use Rattle.flt_store_model.specs.Excess.{own_pages, excess}
 use Rattle.flt_store_model.specs.Successor.{IsNext, KeepsIndices}
 use Rattle.flt_store_model.specs.Holding.{damaged}
-use Rattle.flt_store_model.specs.Example.{small, many, event, own_mark, summary, states, Kept, block, holds, judged, AreJudged}
-use Rattle.flt_store_model.specs.Examples.{first, first_entry, first_commit, standing, faulty, last_failed}
+use Rattle.flt_store_model.specs.Example.{small, many, two_byte_event, own_mark, summary, states, Kept, block, holds, judged, AreJudged}
+use Rattle.flt_store_model.specs.Examples.{generation_one, first_entry, first_commit, standing, faulty, last_event_failed}
 use Rattle.flt_store.specs.Keeping.{HasCommit, KeepsPlaces, StandAtZero}
 
 -- ---- the bits of later blocks
 
 -- A configuration of 256 events: it uses each of the blocks 24 to 35.
 abbrev pub most : Config
-most = record many { pages = 512; events = record { items = replicate 256 event } }
+most = record many { pages = 512; events = record { items = replicate 256 two_byte_event } }
 
 -- A commit of it, by the indices of the blocks 24 to 35. The blocks 3 to 8 are at index 0, and 9 to 23 are not used.
 abbrev pub of_later : List ℕ → Commit
 of_later later = record { generation = 1; index = replicate 6 0 ++ replicate 15 0xFF ++ later }
 
 -- Its bytes, by the last two of the five that have the bits.
-abbrev pub with_bits : ℕ → ℕ → List ℕ
-with_bits fourth fifth = 0x02 ∷ 0x00 ∷ 0x00 ∷ 0x00 ∷ 0x01 ∷ 0x00 ∷ 0x00 ∷ 0x00 ∷ fourth ∷ fifth ∷ []
+abbrev pub bits_bytes : ℕ → ℕ → List ℕ
+bits_bytes fourth fifth = 0x02 ∷ 0x00 ∷ 0x00 ∷ 0x00 ∷ 0x01 ∷ 0x00 ∷ 0x00 ∷ 0x00 ∷ fourth ∷ fifth ∷ []
 
 -- Block 27 alone is at index 1, block 35 alone, and the blocks 28 and 34.
 abbrev pub later_commits : List Commit
@@ -38,13 +38,13 @@ later_commits =
     ∷ []
 
 abbrev pub later_bits : List (List ℕ)
-later_bits = with_bits 0x01 0x00 ∷ with_bits 0x00 0x01 ∷ with_bits 0x82 0x00 ∷ []
+later_bits = bits_bytes 0x01 0x00 ∷ bits_bytes 0x00 0x01 ∷ bits_bytes 0x82 0x00 ∷ []
 
 -- Block 27 has the lowest bit of the fourth byte, and block 35 that of the fifth; no block has another bit of the fifth.
 pub record LaterBits : Type 0 where
   pub written : map commit_bytes later_commits ≡ later_bits
   pub read : map (commit_in most) later_bits ≡ map Some later_commits
-  pub refused : map (commit_in most) (with_bits 0x00 0x02 ∷ with_bits 0x00 0x80 ∷ []) ≡ None ∷ None ∷ []
+  pub refused : map (commit_in most) (bits_bytes 0x00 0x02 ∷ bits_bytes 0x00 0x80 ∷ []) ≡ None ∷ None ∷ []
 
 -- ---- the next commit
 
@@ -62,44 +62,44 @@ FirstIndices =
 
 -- The state in which event 64 failed once, and the same with an entry that occurred twice: block 8 alone has other bytes.
 abbrev pub once : Persist
-once = last_failed.state
+once = last_event_failed.state
 
-abbrev pub twice : Persist
-twice = record once {
+abbrev pub failed_twice : Persist
+failed_twice = record once {
   entries = record {
     items = record { event = 64; occurrence = 2; first = record { items = 0x01 ∷ 0x02 ∷ [] }; recent = record { items = 0x01 ∷ 0x02 ∷ [] } } ∷ [];
   };
 }
 
 -- A commit of this number by the indices of the blocks 3 to 8 and of block 24.
-abbrev pub of_many : ℕ → List ℕ → ℕ → Commit
-of_many generation front later = record { generation = generation; index = front ++ replicate 15 0xFF ++ later ∷ replicate 11 0xFF }
+abbrev pub commit_of_many : ℕ → List ℕ → ℕ → Commit
+commit_of_many generation front later = record { generation = generation; index = front ++ replicate 15 0xFF ++ later ∷ replicate 11 0xFF }
 
 -- The blocks 4, 6 and 24 are at index 1, and in the commit after that the entry in block 8 too.
 abbrev pub second : Commit
-second = of_many 2 (0 ∷ 1 ∷ 0 ∷ 1 ∷ 0 ∷ 0 ∷ []) 1
+second = commit_of_many 2 (0 ∷ 1 ∷ 0 ∷ 1 ∷ 0 ∷ 0 ∷ []) 1
 
 abbrev pub third : Commit
-third = of_many 3 (0 ∷ 1 ∷ 0 ∷ 1 ∷ 0 ∷ 1 ∷ []) 1
+third = commit_of_many 3 (0 ∷ 1 ∷ 0 ∷ 1 ∷ 0 ∷ 1 ∷ []) 1
 
 -- The next save moves block 8 to index 1 and leaves each other block where it is, and the one after it moves block 8 back.
 pub record NextIndices : Type 0 where
-  pub moves : (next : Commit) → IsNext many (Some second) (block_bytes once) (block_bytes twice) next
+  pub moves : (next : Commit) → IsNext many (Some second) (block_bytes once) (block_bytes failed_twice) next
       → (next.generation ≡ 3)
       × NamesAt next ((3, 0) ∷ (4, 1) ∷ (5, 0) ∷ (6, 1) ∷ (7, 0) ∷ (8, 1) ∷ (9, 0xFF) ∷ (24, 1) ∷ (25, 0xFF) ∷ [])
-  pub moves_back : (next : Commit) → IsNext many (Some third) (block_bytes twice) (block_bytes once) next
+  pub moves_back : (next : Commit) → IsNext many (Some third) (block_bytes failed_twice) (block_bytes once) next
       → (next.generation ≡ 4) × NamesAt next ((3, 0) ∷ (4, 1) ∷ (8, 0) ∷ (24, 1) ∷ [])
 
 -- Blocks of which each holds the commit of this number, by the bytes of bits of the blocks 3 to 10 and 19 to 26.
-abbrev pub saved : ℕ → ℕ → ℕ → ℕ → Content
-saved generation front later number = bytes (0x02 ∷ 0x00 ∷ 0x00 ∷ 0x00 ∷ generation ∷ front ∷ 0x00 ∷ later ∷ 0x00 ∷ 0x00 ∷ [])
+abbrev pub saved_commit : ℕ → ℕ → ℕ → ℕ → Content
+saved_commit generation front later number = bytes (0x02 ∷ 0x00 ∷ 0x00 ∷ 0x00 ∷ generation ∷ front ∷ 0x00 ∷ later ∷ 0x00 ∷ 0x00 ∷ [])
 
 -- Each block whose bytes stayed keeps its index, block 24 as the others do: no commit is allowed that moves one of them alone. After the first save
 -- each block is at index 0.
 pub record IndicesAreKept : Type 0 where
-  pub keeps : (next : Commit) → KeepsIndices many once twice second next → NamesAt next ((3, 0) ∷ (4, 1) ∷ (5, 0) ∷ (6, 1) ∷ (7, 0) ∷ (24, 1) ∷ [])
-  pub moved_states : KeepsPlaces many once twice (saved 2 0x0A 0x20) (saved 3 0x2A 0x00) → ⊥
-  pub moved_summary : KeepsPlaces many once twice (saved 2 0x0A 0x20) (saved 3 0x2B 0x20) → ⊥
+  pub keeps : (next : Commit) → KeepsIndices many once failed_twice second next → NamesAt next ((3, 0) ∷ (4, 1) ∷ (5, 0) ∷ (6, 1) ∷ (7, 0) ∷ (24, 1) ∷ [])
+  pub moved_states : KeepsPlaces many once failed_twice (saved_commit 2 0x0A 0x20) (saved_commit 3 0x2A 0x00) → ⊥
+  pub moved_summary : KeepsPlaces many once failed_twice (saved_commit 2 0x0A 0x20) (saved_commit 3 0x2B 0x20) → ⊥
   pub stand_at_zero : (blocks : ℕ → Content) (next : Commit) → HasCommit many blocks next → StandAtZero many blocks
       → NamesAt next ((3, 0) ∷ (4, 0) ∷ (7, 0) ∷ (8, 0) ∷ (24, 0) ∷ [])
 
@@ -123,4 +123,4 @@ pub record OverLongRecords : Type 0 where
   pub own : map (own_pages small) (8 ∷ 16 ∷ 17 ∷ 24 ∷ 25 ∷ 32 ∷ 33 ∷ 64 ∷ 65 ∷ 66 ∷ 40 ∷ 72 ∷ 512 ∷ [])
       ≡ 3 ∷ 3 ∷ 3 ∷ 3 ∷ 3 ∷ 4 ∷ 4 ∷ 5 ∷ 5 ∷ 0 ∷ 0 ∷ 0 ∷ 0 ∷ []
   pub pages : map (λ last. excess small (holds (with_foreign last))) (96 ∷ 97 ∷ []) ≡ 24 ∷ 25 ∷ []
-  pub images : AreJudged small (judged (with_foreign 96) (Ok first) (Ok first) ∷ faulty (with_foreign 97) (damaged (Block 0)) ∷ [])
+  pub images : AreJudged small (judged (with_foreign 96) (Ok generation_one) (Ok generation_one) ∷ faulty (with_foreign 97) (damaged (Block 0)) ∷ [])

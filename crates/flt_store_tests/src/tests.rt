@@ -2,8 +2,8 @@
 //! beneath it: the bytes of blocks, a driver of blocks, blocks by their kind, and what an image holds.
 ghost use Rattle.std.specs.Prelude.{◌≡◌, IfOk, IsTrue, None, OnOk};
 ghost use Rattle.flt_flash.specs.State.{CanArm};
-ghost use Rattle.flt_ea.specs.Ea.{state_of};
-ghost use Rattle.flt_ea.specs.Memory.{state_of as device_state};
+ghost use Rattle.flt_ea.specs.Ea.{ea_state};
+ghost use Rattle.flt_ea.specs.Memory.{eeprom_state as device_state};
 ghost use Rattle.flt_config.specs.declared.config.Config.{Config};
 ghost use Rattle.flt_nvm.specs.Driver.{driver_of as driver_beneath, table_of};
 ghost use Rattle.flt_store_model.specs.Layout.{numbers};
@@ -162,7 +162,7 @@ fn blank_store(alloc: Global, config: &ValidConfig) -> Result<Store<Fee<FlashMem
 
 /// A driver of the blocks of an image over an EEPROM.
 fn units_over<E: Eeprom + Drop>(alloc: Global, device: E) -> Result<Ea<E>, Fail>
-    ensures { IfOk result (λ driver. ((state_of E.state driver).numbers ≡ numbers) × ((state_of E.state driver).room ≡ None)) }
+    ensures { IfOk result (λ driver. ((ea_state E.state driver).numbers ≡ numbers) × ((ea_state E.state driver).room ≡ None)) }
 {
     if device.units() < UNITS {
         return Err(Fail::from("the EEPROM is too small"));
@@ -176,15 +176,15 @@ fn units_over<E: Eeprom + Drop>(alloc: Global, device: E) -> Result<Ea<E>, Fail>
 
 /// A driver over a blank EEPROM whose power may come back so often.
 fn units_driver(alloc: Global, boots: u16) -> Result<Ea<EepromMem>, Fail>
-    ensures { IfOk result (λ driver. ((state_of device_state driver).numbers ≡ numbers) × ((state_of device_state driver).room ≡ None)) }
+    ensures { IfOk result (λ driver. ((ea_state device_state driver).numbers ≡ numbers) × ((ea_state device_state driver).room ≡ None)) }
 {
     units_over(alloc, EepromMem::blank(alloc, UNITS, boots)?)
 }
 
 /// A store over such a driver.
 fn store_of_units<E: Eeprom + Drop>(alloc: Global, driver: Ea<E>) -> Result<Store<Ea<E>>, Fail>
-    requires numbers { (state_of E.state driver).numbers ≡ numbers }
-    requires room { (state_of E.state driver).room ≡ None }
+    requires numbers { (ea_state E.state driver).numbers ≡ numbers }
+    requires room { (ea_state E.state driver).room ≡ None }
     ensures { (c : Config) → IfOk result (λ store. IsRoomy c store) }
 {
     laws::numbers_serve_table();

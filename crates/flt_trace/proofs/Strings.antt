@@ -9,7 +9,7 @@ use Rattle.std.specs.declared.alloc.Global.{Global}
 use Rattle.std.specs.String.{string_bytes}
 use Rattle.serde_json.specs.View.{view, items_of, items_view}
 use Rattle.serde_json.specs.declared.value.Value.{Value}
-use Rattle.flt_trace.specs.Trace.{member_count, seen, strings}
+use Rattle.flt_trace.specs.Trace.{member_count, texts_seen, strings}
 
 -- Strings before other items.
 abbrev pub onto : List (List ℕ) → Items → Items
@@ -77,7 +77,7 @@ uncounted (array ds) is = refl
 uncounted (object ms) is = absurd cc
 
 -- A text among those that are seen.
-pub seen_at : (texts : List (Bor (List ℕ))) (place : ℕ) (d : Bor (List ℕ)) → place < length texts → (get_or texts place d).now ≡ get_or (seen texts) place d.now
+pub seen_at : (texts : List (Bor (List ℕ))) (place : ℕ) (d : Bor (List ℕ)) → place < length texts → (get_or texts place d).now ≡ get_or (texts_seen texts) place d.now
 seen_at [] place d among = absurd (omega (arith, among))
 seen_at (text ∷ texts) zero d among = refl
 seen_at (text ∷ texts) (suc place) d among = seen_at texts place d (omega (arith, among))

@@ -8,12 +8,12 @@ use Rattle.flt_store_model.specs.Form.{block_bytes}
 use Rattle.flt_store_model.specs.Layout.{is_used, used_ids}
 
 -- A block of a state as its bytes in hexadecimal digits, in upper case.
-abbrev pub block_text : Persist → ℕ → List ℕ
-block_text state id = encode_upper (block_bytes state id)
+abbrev pub base_block_text : Persist → ℕ → List ℕ
+base_block_text state id = encode_upper (block_bytes state id)
 
 -- The used blocks of a state in ascending order.
 abbrev pub base_texts : Config → Persist → List (List ℕ)
-base_texts c state = map (block_text state) (used_ids c)
+base_texts c state = map (base_block_text state) (used_ids c)
 
 -- These are the texts of a state that fits, whose blocks are bytes.
 pub record IsBaseOf (c : Config) (texts : List (List ℕ)) (state : Persist) : Type 0 where

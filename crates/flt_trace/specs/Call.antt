@@ -56,16 +56,16 @@ AreCallTexts c (call ∷ calls) [] = ⊥
 AreCallTexts c (call ∷ calls) (text ∷ texts) = IsCallText c call text × AreCallTexts c calls texts
 
 -- The step that makes a call; none makes those of a save.
-abbrev pub step_of : Op → Option Step
-step_of (ops.Report event report) = Some (steps.Report event report)
-step_of (ops.Show event) = Some (steps.Show event)
-step_of (ops.Cycle cycle) = Some (steps.Cycle cycle)
-step_of (ops.Tick ticks) = Some (steps.Tick ticks)
-step_of (ops.Signal index value) = Some (steps.Signal index value)
-step_of (ops.Enable condition fulfilled) = Some (steps.Enable condition fulfilled)
-step_of (ops.Request tester bytes) = Some (steps.Request tester bytes)
-step_of Snapshot = None
-step_of (Saved number) = None
+abbrev pub step_making : Op → Option Step
+step_making (ops.Report event report) = Some (steps.Report event report)
+step_making (ops.Show event) = Some (steps.Show event)
+step_making (ops.Cycle cycle) = Some (steps.Cycle cycle)
+step_making (ops.Tick ticks) = Some (steps.Tick ticks)
+step_making (ops.Signal index value) = Some (steps.Signal index value)
+step_making (ops.Enable condition fulfilled) = Some (steps.Enable condition fulfilled)
+step_making (ops.Request tester bytes) = Some (steps.Request tester bytes)
+step_making Snapshot = None
+step_making (Saved number) = None
 
 -- A call that a save makes.
 abbrev pub IsSaveCall : Op → Type 0

@@ -37,16 +37,16 @@ pub record IsTrace (d : Data) (texts : Texts) : Type 0 where
   pub answers : get (codes "answers") d ≡ Some (array (strings texts.answers))
 
 -- Texts without where they lie in memory.
-abbrev pub seen : List (Bor (List ℕ)) → List (List ℕ)
-seen texts = map (λ text. text.now) texts
+abbrev pub texts_seen : List (Bor (List ℕ)) → List (List ℕ)
+texts_seen texts = map (λ text. text.now) texts
 
 -- A trace without where it lies in memory.
 abbrev pub texts_of : Trace → Texts
 texts_of trace = record {
   script = trace.script.now;
-  base = seen trace.base.items;
-  journal = seen trace.journal.items;
-  answers = seen trace.answers.items;
+  base = texts_seen trace.base.items;
+  journal = texts_seen trace.journal.items;
+  answers = texts_seen trace.answers.items;
 }
 
 -- The same of texts to be printed.

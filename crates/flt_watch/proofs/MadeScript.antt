@@ -16,7 +16,7 @@ use Rattle.flt_life_model.specs.declared.life.Boot.TheVariants.{Started}
 use Rattle.flt_life_model.specs.declared.replies.LaneReplies.{LaneReplies}
 use Rattle.flt_notify.specs.declared.table.SubTable.{SubTable}
 use Rattle.flt_notify.specs.Rows.{has_kind}
-use Rattle.flt_notify.specs.Table.{HasValuesOf, kinds_in, value_in, values_in}
+use Rattle.flt_notify.specs.Table.{HasValuesOf, kinds_in, value_of_kind, values_in}
 use Rattle.flt_watch.specs.Watched.{IsWatched}
 
 -- Nothing was written.
@@ -24,7 +24,7 @@ pub nothing_written : (held : Option (List ℕ)) → (bytes : List ℕ) × Appen
 nothing_written held = ([], Appends-nil held)
 
 -- Two tables with the same kinds and values.
-pub same_values : {n m : ℕ} {F : _} {g : _} {G : _} {h : _} (one : SubTable n F g) (two : SubTable m G h) → kinds_in one ≡ kinds_in two → values_in one ≡ values_in two → value_in one ≡ value_in two
+pub same_values : {n m : ℕ} {F : _} {g : _} {G : _} {h : _} (one : SubTable n F g) (two : SubTable m G h) → kinds_in one ≡ kinds_in two → values_in one ≡ values_in two → value_of_kind one ≡ value_of_kind two
 same_values one two kinds values = λ i kind. if has_kind (kinds i) kind then Some (slice_index_or (values i) kind 0) else None
 
 pub values_stay : {n m : ℕ} {F : _} {g : _} {G : _} {h : _} (start : Start) (past : History) (one : SubTable n F g) (two : SubTable m G h) → kinds_in one ≡ kinds_in two → values_in one ≡ values_in two → HasValuesOf start past one → HasValuesOf start past two

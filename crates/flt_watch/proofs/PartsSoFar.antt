@@ -19,12 +19,12 @@ use Rattle.flt_lane.specs.Runs.{calls_by}
 use Rattle.flt_lane.proofs.Lives.{part_block, part_one, room_behind}
 use Rattle.flt_lane.proofs.Rooms.{taken_rooms}
 use Rattle.flt_watch.specs.declared.lock.WatchLock.{WatchLock}
-use Rattle.flt_watch.specs.Block.{CanRunParts, Gains, HasStepped, IsPartFor, RunsLanes}
-use Rattle.flt_watch.specs.Lane.{IsSeatOf}
+use Rattle.flt_watch.specs.Block.{CanRunParts, WatchGains, HasStepped, IsWatchPartFor, RunsWatchLanes}
+use Rattle.flt_watch.specs.Lane.{IsWatchSeatOf}
 
 -- ---- a part
 
-pub gains_one : (main after : Seat) (step : Step) (own own_after : List Told) (lanes : List (List Told)) → IsMain main → HasStepped main after step own own_after → Gains main after (inl step) own own_after lanes lanes
+pub gains_one : (main after : Seat) (step : Step) (own own_after : List Told) (lanes : List (List Told)) → IsMain main → HasStepped main after step own own_after → WatchGains main after (inl step) own own_after lanes lanes
 gains_one main after step own own_after lanes is one = record {
   mine = one.answer ∷ [];
   others = [];
@@ -33,7 +33,7 @@ gains_one main after step own own_after lanes is one = record {
   dem = part_one MayBeAsked reply_after StepMakes calls_by main after step one.answer is one.dem;
 }
 
-pub gains_block : (main after : Seat) (lanes : List (List Step)) (own : List Told) (told told_after : List (List Told)) → RunsLanes main after lanes told told_after → Gains main after (inr lanes) own own told told_after
+pub gains_block : (main after : Seat) (lanes : List (List Step)) (own : List Told) (told told_after : List (List Told)) → RunsWatchLanes main after lanes told told_after → WatchGains main after (inr lanes) own own told told_after
 gains_block main after lanes own told told_after ran = record {
   mine = [];
   others = ran.others;
@@ -46,14 +46,14 @@ gains_block main after lanes own told told_after ran = record {
 
 module _ {F : _} {g : _} {H : _} {h : _} (lock : WatchLock F g H h) (main : Seat) (lanes : List LaneRoom) (answers : LifeAnswers) (part : PartOf Step) (rest : List (PartOf Step)) (can : CanRunParts lock main lanes answers (part ∷ rest)) where
   -- What the first of them needs.
-  pub part_for : IsPartFor main.start.config part
-  part_for = All-head (IsPartFor main.start.config) part rest can.steps
+  pub part_for : IsWatchPartFor main.start.config part
+  part_for = All-head (IsWatchPartFor main.start.config) part rest can.steps
 
   pub calls_for : calls_in part ≤ main.left
   calls_for = let sum = sum_by-cons calls_in part rest in omega (arith, sum, can.calls)
 
   -- What the later ones need, behind it.
-  pub can_behind : (after : Seat) (left : List LaneRoom) (kept : LifeAnswers) → Gains main after part (told_in answers.own) (told_in kept.own) (map told_in answers.told.items) (map told_in kept.told.items) → IsSeatOf lock after
+  pub can_behind : (after : Seat) (left : List LaneRoom) (kept : LifeAnswers) → WatchGains main after part (told_in answers.own) (told_in kept.own) (map told_in answers.told.items) (map told_in kept.told.items) → IsWatchSeatOf lock after
       → main.left ≤ after.left + calls_in part → vec_len kept.own.answers ≤ vec_len answers.own.answers + 1 → HasRoomForSteps kept.own (own_steps rest)
       → vec_len kept.told ≡ vec_len answers.told + width part → vec_capacity kept.told ≡ vec_capacity answers.told → steps_of left ≡ lanes_in rest → All IsLaneRoom left → CanRunParts lock after left kept rest
   can_behind after left kept gains seat calls own_len own_room told_len told_capacity lanes_are ready =
@@ -62,7 +62,7 @@ module _ {F : _} {g : _} {H : _} {h : _} (lock : WatchLock F g H h) (main : Seat
       record {
         seat = seat;
         main_is = lived.main_after;
-        steps = subst (λ start. All (IsPartFor start.config) rest) (sym lived.start_is) (All-tail (IsPartFor main.start.config) part rest can.steps);
+        steps = subst (λ start. All (IsWatchPartFor start.config) rest) (sym lived.start_is) (All-tail (IsWatchPartFor main.start.config) part rest can.steps);
         calls = omega (arith, sum, calls, can.calls);
         numbers = omega (arith, lived.children_is, can.numbers);
         lanes_are = lanes_are;

@@ -16,7 +16,7 @@ use Rattle.flt_lane.proofs.Running.{DemPart, next_step, sum_so_far, take_past}
 use Rattle.flt_fork.proofs.PartWays.{part_first, part_more, part_number, part_runs, part_start}
 use Rattle.flt_watch.specs.declared.lane.WatchLane.{WatchLane}
 use Rattle.flt_watch.specs.declared.lock.WatchLock.{WatchLock}
-use Rattle.flt_watch.specs.Lane.{HasRun, IsPrepared, IsSeatOf, IsWatchable}
+use Rattle.flt_watch.specs.Lane.{WatchLaneHasRun, IsWatchLanePrepared, IsWatchSeatOf, IsWatchable}
 use Rattle.flt_config.specs.declared.config.Config.{Config}
 
 pub record IsPartway {F : _} {g : _} {H : _} {h : _} (lock : WatchLock F g H h) (before now : WatchLane) (index : ℕ) : Type 0 where
@@ -27,9 +27,9 @@ pub record IsPartway {F : _} {g : _} {H : _} {h : _} (lock : WatchLock F g H h) 
   pub seat_number : now.number ≡ now.seat.number
   pub steps : now.steps.now ≡ before.steps.now
   pub room : HasRoomForSteps now.replies (drop index before.steps.now)
-  pub seat : IsSeatOf lock now.seat
+  pub seat : IsWatchSeatOf lock now.seat
 
-pub begins : {F : _} {g : _} {H : _} {h : _} (lock : WatchLock F g H h) (lane : WatchLane) → IsPrepared lock lane → IsPartway lock lane lane 0
+pub begins : {F : _} {g : _} {H : _} {h : _} (lock : WatchLock F g H h) (lane : WatchLane) → IsWatchLanePrepared lock lane → IsPartway lock lane lane 0
 begins lock lane ready = record {
   told = [];
   dem = part_first MayBeAsked reply_after StepMakes calls_by lane.seat;
@@ -54,7 +54,7 @@ same_call step one two first second = ap (λ (a : Action). op_of a one) (sym fir
 pub one_call : (config : Config) (step : Step) → IsWatchable config step → calls_by step ≡ 1
 one_call config step is = ap call_count is.1
 
-module _ {F : _} {g : _} {H : _} {h : _} (lock : WatchLock F g H h) (before now : WatchLane) (index : ℕ) (step : Step) (ready : IsPrepared lock before) (on : IsPartway lock before now index) (within : index < length before.steps.now)
+module _ {F : _} {g : _} {H : _} {h : _} (lock : WatchLock F g H h) (before now : WatchLane) (index : ℕ) (step : Step) (ready : IsWatchLanePrepared lock before) (on : IsPartway lock before now index) (within : index < length before.steps.now)
     (is : step ≡ get_or before.steps.now index step) where
   possible : IsWatchable before.seat.start.config step
   possible = subst (IsWatchable before.seat.start.config) (sym is) (ready.steps index step within)
@@ -73,7 +73,7 @@ module _ {F : _} {g : _} {H : _} {h : _} (lock : WatchLock F g H h) (before now 
   pub possible_next : IsWatchable now.seat.start.config step
   possible_next = subst (λ s. IsWatchable s.config step) (sym start_now) possible
 
-  pub goes_on : (after : WatchLane) (told : Told) → Makes now.seat step told after.seat → KeepsAnswer now.replies after.replies step told → after.number ≡ now.number → after.steps.now ≡ now.steps.now → IsSeatOf lock after.seat
+  pub goes_on : (after : WatchLane) (told : Told) → Makes now.seat step told after.seat → KeepsAnswer now.replies after.replies step told → after.number ≡ now.number → after.steps.now ≡ now.steps.now → IsWatchSeatOf lock after.seat
       → IsPartway lock before after (index + 1)
   goes_on after told makes keeps number steps seat =
       let all = before.steps.now in
@@ -91,7 +91,7 @@ module _ {F : _} {g : _} {H : _} {h : _} (lock : WatchLock F g H h) (before now 
         seat = seat;
       }
 
-pub has_run : {F : _} {g : _} {H : _} {h : _} (lock : WatchLock F g H h) (before now : WatchLane) (index : ℕ) → IsPartway lock before now index → length before.steps.now ≤ index → HasRun before now
+pub has_run : {F : _} {g : _} {H : _} {h : _} (lock : WatchLock F g H h) (before now : WatchLane) (index : ℕ) → IsPartway lock before now index → length before.steps.now ≤ index → WatchLaneHasRun before now
 has_run lock before now index on all =
     let whole = take_past index before.steps.now all in
     record {

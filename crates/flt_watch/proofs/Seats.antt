@@ -14,13 +14,13 @@ use Rattle.flt_lane.specs.Room.{all_calls}
 use Rattle.flt_lane.proofs.Seating.{all_of_first, first_fits, none_told, room_same}
 use Rattle.flt_watch.specs.declared.lane.WatchLane.{WatchLane}
 use Rattle.flt_watch.specs.declared.lock.WatchLock.{WatchLock}
-use Rattle.flt_watch.specs.Lane.{IsLaneFor, IsPrepared, IsSeatOf}
-use Rattle.flt_watch.specs.Seating.{AreSeated, CanJoin, CanSeat, HaveJoined, IsJoined, IsSeated}
+use Rattle.flt_watch.specs.Lane.{IsWatchLaneFor, IsWatchLanePrepared, IsWatchSeatOf}
+use Rattle.flt_watch.specs.Seating.{AreSeated, CanJoin, CanSeat, WatchLanesHaveJoined, IsWatchLaneJoined, IsSeated}
 
 module _ {F : _} {g : _} {H : _} {h : _} (lock : WatchLock F g H h) (before : Seat) (room : LaneRoom) (later : List LaneRoom) (can : CanSeat lock before (room ∷ later)) where
   -- What is known of the next lane.
-  pub lane_for : IsLaneFor before.start.config room.steps.now
-  lane_for = All-head (IsLaneFor before.start.config) room.steps.now (steps_of later) can.steps
+  pub lane_for : IsWatchLaneFor before.start.config room.steps.now
+  lane_for = All-head (IsWatchLaneFor before.start.config) room.steps.now (steps_of later) can.steps
 
   pub seated : (after : Seat) (work : WatchLane) → after ≡ split_off (calls_of room.steps.now) before → work.seat ≡ split_seat (calls_of room.steps.now) before → work.number ≡ work.seat.number → work.steps ≡ room.steps
       → work.replies ≡ room.replies → IsSeated lock before room after work
@@ -51,16 +51,16 @@ module _ {F : _} {g : _} {H : _} {h : _} (lock : WatchLock F g H h) (before : Se
         split = splits_on lock.turn before after work.seat (calls_of work.steps.now) (length later) _ (all_calls (steps_of later)) _ is.dem (omega arith) (all_of_first calls_of room later work.steps.now is.steps_are) can.split;
         config = start ∙ can.config;
         ready = All-tail IsLaneRoom room later can.ready;
-        steps = subst (λ c. All (IsLaneFor c) (steps_of later)) (sym start) (All-tail (IsLaneFor before.start.config) room.steps.now (steps_of later) can.steps);
+        steps = subst (λ c. All (IsWatchLaneFor c) (steps_of later)) (sym start) (All-tail (IsWatchLaneFor before.start.config) room.steps.now (steps_of later) can.steps);
       }
 
 module _ {F : _} {g : _} {H : _} {h : _} (lock : WatchLock F g H h) where
   -- The later lanes may give theirs back behind it.
-  pub joins_later : (before : Seat) (work : WatchLane) (later : List WatchLane) (after : Seat) (replies : LaneReplies) → IsJoined before work after replies → CanJoin lock before (work ∷ later) → CanJoin lock after later
+  pub joins_later : (before : Seat) (work : WatchLane) (later : List WatchLane) (after : Seat) (replies : LaneReplies) → IsWatchLaneJoined before work after replies → CanJoin lock before (work ∷ later) → CanJoin lock after later
   joins_later before work later after replies is can = record {
     main_is = joins_on lock.turn before after work.seat is.dem can.main_is;
     config = ap (λ (s : Seat). s.start.config) is.dem ∙ can.config;
-    seats = All-tail (λ (w : WatchLane). IsSeatOf lock w.seat) work later can.seats;
+    seats = All-tail (λ (w : WatchLane). IsWatchSeatOf lock w.seat) work later can.seats;
   }
 
   pub are_seated : (main : Seat) (rooms : List LaneRoom) (off : Seat) (old works : List WatchLane) → old ≡ [] → (more : List WatchLane) × (works ≡ old ++ more) × HavePassed (IsSeated lock) main rooms off more → AreSeated lock main off (steps_of rooms) works
@@ -69,7 +69,7 @@ module _ {F : _} {g : _} {H : _} {h : _} (lock : WatchLock F g H h) where
       let are = passed_alone passes main rooms off old works passed.0 none passed.1 passed.2 in
       let steps = passed_same passes (λ (room : LaneRoom). room.steps.now) (λ (w : WatchLane). w.steps.now) (λ before room after work is. is.steps_are) main rooms off works are in
       record {
-        ready = passed_each passes (IsPrepared lock) (λ before room after work is. is.ready) main rooms off works are;
+        ready = passed_each passes (IsWatchLanePrepared lock) (λ before room after work is. is.ready) main rooms off works are;
         steps_are = steps;
         no_answers = passed_each passes (λ (w : WatchLane). told_in w.replies ≡ []) (λ before room after work is. is.no_answers) main rooms off works are;
         dem = split_seats passes (λ (s : Seat). s) (λ (w : WatchLane). w.seat) (λ (w : WatchLane). w.steps.now) calls_of (λ before room after work is. is.dem) main rooms off works are;
@@ -77,9 +77,9 @@ module _ {F : _} {g : _} {H : _} {h : _} (lock : WatchLock F g H h) where
             (split_main passes (λ (s : Seat). s) (λ (w : WatchLane). w.seat) (λ (w : WatchLane). w.steps.now) calls_of (λ before room after work is. is.dem) main rooms off works are);
       }
 
-pub have_joined : (off : Seat) (works : List WatchLane) (after : Seat) (before told : List LaneReplies) → (more : List LaneReplies) × (told ≡ before ++ more) × HavePassed IsJoined off works after more
-    → HaveJoined off after works (map told_in before) (map told_in told)
+pub have_joined : (off : Seat) (works : List WatchLane) (after : Seat) (before told : List LaneReplies) → (more : List LaneReplies) × (told ≡ before ++ more) × HavePassed IsWatchLaneJoined off works after more
+    → WatchLanesHaveJoined off after works (map told_in before) (map told_in told)
 have_joined off works after before told passed = record {
-  told_are = passed_behind IsJoined (λ (w : WatchLane). told_in w.replies) told_in (λ before work after replies is. ap told_in is.replies_are) off works after before told passed.0 passed.1 passed.2;
-  dem = joined_seats IsJoined (λ (s : Seat). s) (λ (w : WatchLane). w.seat) (λ before work after replies is. is.dem) off works after passed.0 passed.2;
+  told_are = passed_behind IsWatchLaneJoined (λ (w : WatchLane). told_in w.replies) told_in (λ before work after replies is. ap told_in is.replies_are) off works after before told passed.0 passed.1 passed.2;
+  dem = joined_seats IsWatchLaneJoined (λ (s : Seat). s) (λ (w : WatchLane). w.seat) (λ before work after replies is. is.dem) off works after passed.0 passed.2;
 }

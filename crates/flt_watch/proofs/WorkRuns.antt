@@ -12,12 +12,12 @@ use Rattle.flt_fork.specs.Runs.{HasRunBlock}
 use Rattle.flt_fork.proofs.BlockRuns.{works_ran}
 use Rattle.flt_watch.specs.declared.lane.WatchLane.{WatchLane}
 use Rattle.flt_watch.specs.declared.lock.WatchLock.{WatchLock}
-use Rattle.flt_watch.specs.Block.{RunsLanes}
-use Rattle.flt_watch.specs.Lane.{HaveRun}
-use Rattle.flt_watch.specs.Seating.{AreSeated, HaveJoined}
+use Rattle.flt_watch.specs.Block.{RunsWatchLanes}
+use Rattle.flt_watch.specs.Lane.{WatchLanesHaveRun}
+use Rattle.flt_watch.specs.Seating.{AreSeated, WatchLanesHaveJoined}
 
 pub ran_lanes : {F : _} {g : _} {H : _} {h : _} (lock : WatchLock F g H h) (main off after : Seat) (lanes : List (List Step)) (works ran : List WatchLane) (told more : List (List Told)) → IsMain main → AreSeated lock main off lanes works
-    → HaveRun works ran → HaveJoined off after ran told more → RunsLanes main after lanes told more
+    → WatchLanesHaveRun works ran → WatchLanesHaveJoined off after ran told more → RunsWatchLanes main after lanes told more
 ran_lanes lock main off after lanes works ran told more is seated have joined = record {
   others = map (λ (w : WatchLane). told_in w.replies) ran;
   told_are = joined.told_are;

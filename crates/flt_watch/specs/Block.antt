@@ -17,10 +17,10 @@ use Rattle.flt_lane.specs.Block.{HasRunPart, HasRunParts}
 use Rattle.flt_lane.specs.Parts.{HasRoomForParts}
 use Rattle.flt_lane.specs.Runs.{Makes}
 use Rattle.flt_watch.specs.declared.lock.WatchLock.{WatchLock}
-use Rattle.flt_watch.specs.Lane.{IsLaneFor, IsSeatOf, IsWatchable}
+use Rattle.flt_watch.specs.Lane.{IsWatchLaneFor, IsWatchSeatOf, IsWatchable}
 
 -- The lanes of a block were run, and their answers were put behind those of the lanes before.
-pub record RunsLanes (main after : Seat) (lanes : List (List Step)) (told told_after : List (List Told)) : Type 0 where
+pub record RunsWatchLanes (main after : Seat) (lanes : List (List Step)) (told told_after : List (List Told)) : Type 0 where
   pub others : List (List Told)
   pub told_are : told_after ≡ told ++ others
   pub dem : HasRunBlock reply_after StepMakes main after lanes others
@@ -32,15 +32,15 @@ pub record HasStepped (main after : Seat) (step : Step) (own own_after : List To
   pub dem : Makes main step answer after
 
 -- The steps of a part make calls alone.
-abbrev pub IsPartFor : Config → PartOf Step → Type 0
-IsPartFor config (inl step) = IsWatchable config step
-IsPartFor config (inr lanes) = All (IsLaneFor config) lanes
+abbrev pub IsWatchPartFor : Config → PartOf Step → Type 0
+IsWatchPartFor config (inl step) = IsWatchable config step
+IsWatchPartFor config (inr lanes) = All (IsWatchLaneFor config) lanes
 
 -- These parts can be carried out: the main seat has their calls left, and numbers for their lanes, which are these, and there is room for their answers.
 pub record CanRunParts {F : _} {g : _} {H : _} {h : _} (lock : WatchLock F g H h) (main : Seat) (lanes : List LaneRoom) (answers : LifeAnswers) (parts : List (PartOf Step)) : Type 0 where
-  pub seat : IsSeatOf lock main
+  pub seat : IsWatchSeatOf lock main
   pub main_is : IsMain main
-  pub steps : All (IsPartFor main.start.config) parts
+  pub steps : All (IsWatchPartFor main.start.config) parts
   pub calls : sum_by calls_in parts ≤ main.left
   pub numbers : main.children + widths parts < 2 ^ 32
   pub lanes_are : steps_of lanes ≡ lanes_in parts
@@ -48,7 +48,7 @@ pub record CanRunParts {F : _} {g : _} {H : _} {h : _} (lock : WatchLock F g H h
   pub room : HasRoomForParts answers parts
 
 -- A part was carried out, and its answers were put behind those of lane 0 and of the lanes before.
-pub record Gains (main after : Seat) (part : PartOf Step) (own own_after : List Told) (lanes lanes_after : List (List Told)) : Type 0 where
+pub record WatchGains (main after : Seat) (part : PartOf Step) (own own_after : List Told) (lanes lanes_after : List (List Told)) : Type 0 where
   pub mine : List Told
   pub others : List (List Told)
   pub own_are : own_after ≡ own ++ mine
@@ -56,5 +56,5 @@ pub record Gains (main after : Seat) (part : PartOf Step) (own own_after : List 
   pub dem : HasRunPart reply_after StepMakes main after part mine others
 
 -- All parts were carried out, and were answered so.
-abbrev pub HaveRunParts : Seat → Seat → List (PartOf Step) → List Told → List (List Told) → Type 0
-HaveRunParts = HasRunParts reply_after StepMakes
+abbrev pub HaveWatchedParts : Seat → Seat → List (PartOf Step) → List Told → List (List Told) → Type 0
+HaveWatchedParts = HasRunParts reply_after StepMakes

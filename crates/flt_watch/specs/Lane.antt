@@ -16,20 +16,20 @@ use Rattle.flt_watch.specs.declared.lane.WatchLane.{WatchLane}
 use Rattle.flt_watch.specs.declared.lock.WatchLock.{WatchLock}
 
 -- The lock made the seat, which so begins with the lock's configuration.
-abbrev pub IsSeatOf : {F : _} {g : _} {H : _} {h : _} → WatchLock F g H h → Seat → Type 0
-IsSeatOf lock seat = turn.IsSeatOf lock.turn seat × (seat.start.config ≡ lock.config.value)
+abbrev pub IsWatchSeatOf : {F : _} {g : _} {H : _} {h : _} → WatchLock F g H h → Seat → Type 0
+IsWatchSeatOf lock seat = turn.IsSeatOf lock.turn seat × (seat.start.config ≡ lock.config.value)
 
 -- A step that makes one call, whose numbers are in their ranges.
 abbrev pub IsWatchable : Config → Step → Type 0
 IsWatchable config step = (op : Op) × (action_of step ≡ Call op) × IsAdmitted config op
 
 -- The steps of a lane are such, and are at most as many as a script has.
-abbrev pub IsLaneFor : Config → List Step → Type 0
-IsLaneFor config steps = All (IsWatchable config) steps × (length steps ≤ 65536)
+abbrev pub IsWatchLaneFor : Config → List Step → Type 0
+IsWatchLaneFor config steps = All (IsWatchable config) steps × (length steps ≤ 65536)
 
 -- The lane has its seat's number, and its seat has the calls of its steps; and there is room for their answers.
-pub record IsPrepared {F : _} {g : _} {H : _} {h : _} (lock : WatchLock F g H h) (lane : WatchLane) : Type 0 where
-  pub seat : IsSeatOf lock lane.seat
+pub record IsWatchLanePrepared {F : _} {g : _} {H : _} {h : _} (lock : WatchLock F g H h) (lane : WatchLane) : Type 0 where
+  pub seat : IsWatchSeatOf lock lane.seat
   pub number : lane.number ≡ lane.seat.number
   pub steps : All (IsWatchable lane.seat.start.config) lane.steps.now
   pub few : length lane.steps.now ≤ 65536
@@ -37,7 +37,7 @@ pub record IsPrepared {F : _} {g : _} {H : _} {h : _} (lock : WatchLock F g H h)
   pub room : HasRoomForSteps lane.replies lane.steps.now
 
 -- It made its steps, and has one answer more for each.
-pub record HasRun (before after : WatchLane) : Type 0 where
+pub record WatchLaneHasRun (before after : WatchLane) : Type 0 where
   pub told : List Told
   pub dem : RunsSteps before.seat before.steps.now told after.seat
   pub answers : told_in after.replies ≡ told_in before.replies ++ told
@@ -45,6 +45,6 @@ pub record HasRun (before after : WatchLane) : Type 0 where
   pub steps : after.steps.now ≡ before.steps.now
 
 -- So did each lane.
-pub record HaveRun (before after : List WatchLane) : Type 0 where
+pub record WatchLanesHaveRun (before after : List WatchLane) : Type 0 where
   pub len : length after ≡ length before
-  pub each : (k : ℕ) (d : WatchLane) → k < length before → HasRun (slice_index_or before k d) (slice_index_or after k d)
+  pub each : (k : ℕ) (d : WatchLane) → k < length before → WatchLaneHasRun (slice_index_or before k d) (slice_index_or after k d)

@@ -13,7 +13,7 @@ use Rattle.flt_life_model.specs.Room.{IsLaneRoom, steps_of, told_in}
 use Rattle.flt_lane.specs.Room.{all_calls}
 use Rattle.flt_watch.specs.declared.lane.WatchLane.{WatchLane}
 use Rattle.flt_watch.specs.declared.lock.WatchLock.{WatchLock}
-use Rattle.flt_watch.specs.Lane.{IsLaneFor, IsPrepared, IsSeatOf}
+use Rattle.flt_watch.specs.Lane.{IsWatchLaneFor, IsWatchLanePrepared, IsWatchSeatOf}
 
 module _ {F : _} {g : _} {H : _} {h : _} (lock : WatchLock F g H h) where
   -- The main seat has the calls of the steps of these lanes, which are ready for them, and numbers.
@@ -21,18 +21,18 @@ module _ {F : _} {g : _} {H : _} {h : _} (lock : WatchLock F g H h) where
     pub split : CanSplit lock.turn main (length rooms) (all_calls (steps_of rooms))
     pub config : main.start.config ≡ lock.config.value
     pub ready : All IsLaneRoom rooms
-    pub steps : All (IsLaneFor main.start.config) (steps_of rooms)
+    pub steps : All (IsWatchLaneFor main.start.config) (steps_of rooms)
 
   -- A lane got its seat, with exactly the calls of its steps.
   pub record IsSeated (before : Seat) (room : LaneRoom) (after : Seat) (work : WatchLane) : Type 0 where
-    pub ready : IsPrepared lock work
+    pub ready : IsWatchLanePrepared lock work
     pub steps_are : work.steps.now ≡ room.steps.now
     pub no_answers : told_in work.replies ≡ []
     pub dem : Splits before (calls_of work.steps.now) after work.seat
 
   -- All lanes of a block got theirs.
   pub record AreSeated (main off : Seat) (lanes : List (List Step)) (works : List WatchLane) : Type 0 where
-    pub ready : All (IsPrepared lock) works
+    pub ready : All (IsWatchLanePrepared lock) works
     pub steps_are : map (λ (w : WatchLane). w.steps.now) works ≡ lanes
     pub no_answers : All (λ (w : WatchLane). told_in w.replies ≡ []) works
     pub dem : AreSplit (λ (w : WatchLane). w.seat) (λ w. calls_of w.steps.now) main (main.children + 1) works
@@ -42,14 +42,14 @@ module _ {F : _} {g : _} {H : _} {h : _} (lock : WatchLock F g H h) where
   pub record CanJoin (main : Seat) (works : List WatchLane) : Type 0 where
     pub main_is : IsMainOf lock.turn main
     pub config : main.start.config ≡ lock.config.value
-    pub seats : All (λ work. IsSeatOf lock work.seat) works
+    pub seats : All (λ work. IsWatchSeatOf lock work.seat) works
 
 -- A lane gave its seat back, and left its answers.
-pub record IsJoined (before : Seat) (work : WatchLane) (after : Seat) (replies : LaneReplies) : Type 0 where
+pub record IsWatchLaneJoined (before : Seat) (work : WatchLane) (after : Seat) (replies : LaneReplies) : Type 0 where
   pub replies_are : replies ≡ work.replies
   pub dem : after ≡ joined_seat before work.seat
 
 -- All lanes of a block gave theirs back, and their answers came behind those that were there.
-pub record HaveJoined (off after : Seat) (works : List WatchLane) (told told_after : List (List Told)) : Type 0 where
+pub record WatchLanesHaveJoined (off after : Seat) (works : List WatchLane) (told told_after : List (List Told)) : Type 0 where
   pub told_are : told_after ≡ told ++ map (λ (w : WatchLane). told_in w.replies) works
   pub dem : AreJoined off after (map (λ (w : WatchLane). w.seat) works)

@@ -10,7 +10,7 @@ use Rattle.flt_step.specs.declared.step.Step.{Step}
 use Rattle.flt_step.specs.Part.{PartOf}
 use Rattle.flt_script.specs.Script.{ScriptContent}
 use Rattle.flt_life_model.specs.declared.life.Boot.TheVariants.{Started}
-use Rattle.flt_notify.specs.Table.{kinds_in, value_in, values_in}
+use Rattle.flt_notify.specs.Table.{kinds_in, value_of_kind, values_in}
 use Rattle.flt_filter.specs.Verdict.{Due, Inside, IsTold, Outside}
 use Rattle.flt_script.specs.Fault.{script_fault_line, unread_line}
 use Rattle.flt_script.specs.Fetched.{AreNoScript, AreScript, HasLostRead}
@@ -32,10 +32,10 @@ pub record IsNoState (state : Persist) : Type 0 where
   pub recent_confirmed : state.recent_confirmed ≡ None
 
 -- The status, by whether the text was written with which this one is due.
-abbrev pub status_by : {T : Type 0} → ℕ → Result T StreamFault → ℕ
-status_by status (Ok done) = status
-status_by status (Err Failed) = 4
-status_by status (Err Memory) = 7
+abbrev pub status_written : {T : Type 0} → ℕ → Result T StreamFault → ℕ
+status_written status (Ok done) = status
+status_written status (Err Failed) = 4
+status_written status (Err Memory) = 7
 
 -- A status is due, with this text.
 abbrev pub due : ℕ → List ℕ → Due
@@ -69,7 +69,7 @@ module _ {F : _} {g : _} where
     pub base : outcome.base ≡ initial_state script.config
     pub life : IsWatched script.config parts outcome.journal.items outcome.answers.items outcome.subs
     pub kinds_are : kinds_in outcome.subs ≡ kinds
-    pub told : IsTold writing (due 0 (watch_text parts (Started 0 outcome.base) outcome.answers.items (value_in outcome.subs))) outcome.status
+    pub told : IsTold writing (due 0 (watch_text parts (Started 0 outcome.base) outcome.answers.items (value_of_kind outcome.subs))) outcome.status
 
   -- The bytes are a script that a watch makes, and it was made.
   pub record IsMade (dids : List DidUse) (reading : Inside) (writing : Outside) (kinds : List ℕ) (outcome : WatchOutcome F g) : Type 0 where

@@ -6,9 +6,9 @@ ghost use Rattle.flt_step.specs.declared.step.Step.{Step};
 ghost use Rattle.flt_step.specs.Part.{PartOf};
 ghost use Rattle.flt_life_model.specs.Room.{steps_of, told_in};
 ghost use Rattle.flt_life_model.specs.declared.room.LaneRoom.{LaneRoom as RoomView};
-ghost use Rattle.flt_watch.specs.Block.{CanRunParts, Gains};
-ghost use Rattle.flt_watch.specs.Lane.{HaveRun, IsPrepared, IsSeatOf};
-ghost use Rattle.flt_watch.specs.Seating.{AreSeated, CanJoin, CanSeat, HaveJoined, IsJoined, IsSeated};
+ghost use Rattle.flt_watch.specs.Block.{CanRunParts, WatchGains};
+ghost use Rattle.flt_watch.specs.Lane.{WatchLanesHaveRun, IsWatchLanePrepared, IsWatchSeatOf};
+ghost use Rattle.flt_watch.specs.Seating.{AreSeated, CanJoin, CanSeat, WatchLanesHaveJoined, IsWatchLaneJoined, IsSeated};
 ghost use Rattle.flt_watch.specs.declared.lane.WatchLane.{WatchLane as LaneView};
 
 use crate::lane::{WatchLane, run_beside};
@@ -40,7 +40,7 @@ fn split_lane<'a>(lock: &WatchLock, main: &mut WatchSeat, room: LaneRoom<'a>) ->
 /// Joins the seat of a lane, and gives its answers.
 fn join_lane(lock: &WatchLock, main: &mut WatchSeat, work: WatchLane<'_>) -> LaneReplies
     requires can { (later : List LaneView) × CanJoin lock.now main.old (work ∷ later) }
-    ensures joined { IsJoined main.old work.entry main.new result }
+    ensures joined { IsWatchLaneJoined main.old work.entry main.new result }
 {
     let WatchLane {
         number: _,
@@ -65,7 +65,7 @@ impl<'a> Passing<WatchSeat, LaneRoom<'a>, WatchLane<'a>> for WatchLock {
 impl<'a> Passing<WatchSeat, WatchLane<'a>, LaneReplies> for WatchLock {
     ghost can_pass = { CanJoin };
 
-    ghost passes = { λ lock. IsJoined };
+    ghost passes = { λ lock. IsWatchLaneJoined };
 
     fn pass(&self, main: &mut WatchSeat, lane: WatchLane<'a>) -> LaneReplies {
         join_lane(self, main, lane)
@@ -97,7 +97,7 @@ fn join_lanes(
 )
     requires can { CanJoin lock.now main.old works.items }
     requires room { vec_len told.old + length works.items ≤ vec_capacity told.old }
-    ensures joined { HaveJoined main.old main.new works.entry.items (map told_in told.old.items) (map told_in told.new.items) }
+    ensures joined { WatchLanesHaveJoined main.old main.new works.entry.items (map told_in told.old.items) (map told_in told.new.items) }
     ensures len { vec_len told.new ≡ vec_len told.old + length works.entry.items }
     ensures capacity { vec_capacity told.new ≡ vec_capacity told.old }
 {
@@ -111,9 +111,9 @@ fn run_works<R: Threads + Wait + Sync, G: Gate + Sync>(
     gate: &G,
     works: &mut Vec<WatchLane<'_>>,
 )
-    requires ready { All (IsPrepared lock.now) works.old.items }
-    ensures ran { HaveRun works.old.items works.new.items }
-    ensures seats { All (λ work. IsSeatOf lock.now work.seat) works.new.items }
+    requires ready { All (IsWatchLanePrepared lock.now) works.old.items }
+    ensures ran { WatchLanesHaveRun works.old.items works.new.items }
+    ensures seats { All (λ work. IsWatchSeatOf lock.now work.seat) works.new.items }
 {
     run_beside(rt, lock, gate, works.as_mut_slice());
 }
@@ -133,7 +133,7 @@ pub(crate) fn run_block<'a, R: Threads + Wait + Sync, G: Gate + Sync>(
         × CanRunParts lock.now main.old (rooms.items ++ later) answers.old (inr (steps_of rooms.items) ∷ rest) }
     requires empty { (works.items ≡ []) × (vec_len works ≡ 0) }
     requires seats { length rooms.items ≤ vec_capacity works }
-    ensures gains { Gains main.old main.new (inr (steps_of rooms.entry.items)) (told_in answers.old.own) (told_in answers.new.own)
+    ensures gains { WatchGains main.old main.new (inr (steps_of rooms.entry.items)) (told_in answers.old.own) (told_in answers.new.own)
         (map told_in answers.old.told.items) (map told_in answers.new.told.items) }
     ensures told_len { vec_len answers.new.told ≡ vec_len answers.old.told + length (steps_of rooms.entry.items) }
     ensures can { (later : List RoomView) (rest : List (PartOf Step))

@@ -3,7 +3,7 @@ ghost use Rattle.std.specs.Prelude.{◌≡◌, ◌≤◌, All, length};
 ghost use Rattle.flt_life_model.specs.Actions.{action_of, response_size};
 ghost use Rattle.flt_life_model.specs.Answers.{told_size, told_with};
 ghost use Rattle.flt_lane.specs.Runs.{Makes};
-ghost use Rattle.flt_watch.specs.Lane.{HasRun, HaveRun, IsPrepared, IsSeatOf, IsWatchable};
+ghost use Rattle.flt_watch.specs.Lane.{WatchLaneHasRun, WatchLanesHaveRun, IsWatchLanePrepared, IsWatchSeatOf, IsWatchable};
 
 use crate::lock::{WatchLock, WatchSeat};
 use arrayvec::ArrayVec;
@@ -37,12 +37,12 @@ pub(crate) fn make_call<R: Wait>(
     step: &Step,
     response: &mut ArrayVec<u8, RESPONSE>,
 ) -> StepAnswer<ReplyKind>
-    requires lock { IsSeatOf lock.now seat.old }
+    requires lock { IsWatchSeatOf lock.now seat.old }
     requires step { IsWatchable seat.old.start.config step.now }
     requires left { 1 ≤ seat.old.left }
     ensures made { Makes seat.old step.now (told_with response.new.items result) seat.new }
     ensures size { told_size (told_with response.new.items result) ≤ response_size (action_of step.now) }
-    ensures lock { IsSeatOf lock.now seat.new }
+    ensures lock { IsWatchSeatOf lock.now seat.new }
 {
     let Action::Call(op) = action_of(step) else {
         unreachable!()
@@ -58,9 +58,9 @@ pub(crate) fn make_call<R: Wait>(
 
 /// Makes the steps of a lane in their order, each between the two calls of the gate.
 fn run_lane<R: Wait, G: Gate>(rt: &R, lock: &WatchLock, gate: &G, lane: &mut WatchLane<'_>)
-    requires ready { IsPrepared lock.now lane.old }
-    ensures ran { HasRun lane.old lane.new }
-    ensures seat { IsSeatOf lock.now lane.new.seat }
+    requires ready { IsWatchLanePrepared lock.now lane.old }
+    ensures ran { WatchLaneHasRun lane.old lane.new }
+    ensures seat { IsWatchSeatOf lock.now lane.new.seat }
 {
     let steps = lane.steps;
     let mut response = ArrayVec::new();
@@ -73,9 +73,9 @@ fn run_lane<R: Wait, G: Gate>(rt: &R, lock: &WatchLock, gate: &G, lane: &mut Wat
 }
 
 impl<G: Gate> Work<WatchLock, G> for WatchLane<'_> {
-    ghost ready = { λ lock lane. IsPrepared lock lane };
+    ghost ready = { λ lock lane. IsWatchLanePrepared lock lane };
 
-    ghost done = { λ lock before after. HasRun before after × IsSeatOf lock after.seat };
+    ghost done = { λ lock before after. WatchLaneHasRun before after × IsWatchSeatOf lock after.seat };
 
     fn work<R: Wait>(&mut self, rt: &R, lock: &WatchLock, gate: &G) {
         run_lane(rt, lock, gate, self);
@@ -89,9 +89,9 @@ pub(crate) fn run_beside<R: Threads + Wait + Sync, G: Gate + Sync>(
     gate: &G,
     lanes: &mut [WatchLane<'_>],
 )
-    requires ready { All (IsPrepared lock.now) lanes.old }
-    ensures ran { HaveRun lanes.old lanes.new }
-    ensures seats { All (λ lane. IsSeatOf lock.now lane.seat) lanes.new }
+    requires ready { All (IsWatchLanePrepared lock.now) lanes.old }
+    ensures ran { WatchLanesHaveRun lanes.old lanes.new }
+    ensures seats { All (λ lane. IsWatchSeatOf lock.now lane.seat) lanes.new }
 {
     work_beside(rt, lock, gate, lanes);
 }

@@ -7,7 +7,7 @@ ghost use Rattle.flt_life_model.specs.declared.life.Boot.TheVariants as boots;
 ghost use Rattle.flt_life_model.specs.Parts.{steps_in, widths};
 ghost use Rattle.flt_step.specs.Part.{parts_of};
 ghost use Rattle.flt_notify.specs.Table.{IsAtZero, kinds_in};
-ghost use Rattle.flt_watch.specs.Block.{IsPartFor};
+ghost use Rattle.flt_watch.specs.Block.{IsWatchPartFor};
 ghost use Rattle.flt_watch.specs.Watched.{IsWatchedLife};
 
 use crate::living::run_parts;
@@ -45,7 +45,7 @@ pub(crate) fn live<R: Threads + Wait + Sync, G: Gate + Sync>(
 ) -> Result<WatchedLife, AllocError>
     requires served { Serves (dids_of dids) config.now.events.items }
     requires zero { IsAtZero subs }
-    requires steps { All (IsPartFor config.now) (parts_of parts.now) }
+    requires steps { All (IsWatchPartFor config.now) (parts_of parts.now) }
     requires few { sum_by steps_in (parts_of parts.now) ≤ 65536 }
     requires numbers { widths (parts_of parts.now) + 1 < 2 ^ 32 }
     requires indices { length parts.now < 2 ^ 32 }

@@ -4,8 +4,8 @@ ghost use Rattle.flt_step.specs.Part.{PartOf, part_of, parts_of};
 ghost use Rattle.flt_step.specs.declared.step.Step.{Step};
 ghost use Rattle.flt_life_model.specs.Parts.{width, widths};
 ghost use Rattle.flt_life_model.specs.Room.{HasRoomForSteps, told_in};
-ghost use Rattle.flt_watch.specs.Block.{CanRunParts, Gains, HasStepped, HaveRunParts};
-ghost use Rattle.flt_watch.specs.Lane.{IsSeatOf, IsWatchable};
+ghost use Rattle.flt_watch.specs.Block.{CanRunParts, WatchGains, HasStepped, HaveWatchedParts};
+ghost use Rattle.flt_watch.specs.Lane.{IsWatchSeatOf, IsWatchable};
 
 use crate::block::run_block;
 use crate::lane::make_call;
@@ -28,13 +28,13 @@ fn run_one<R: Wait, G: Gate>(
     step: &Step,
     answers: &mut LifeAnswers,
 )
-    requires lock { IsSeatOf lock.now main.old }
+    requires lock { IsWatchSeatOf lock.now main.old }
     requires step { IsWatchable main.old.start.config step.now }
     requires left { 1 ≤ main.old.left }
     requires index { vec_len answers.old.own.answers < 2 ^ 32 }
     requires room { (rest : List Step) × HasRoomForSteps answers.old.own (step.now ∷ rest) }
     ensures stepped { HasStepped main.old main.new step.now (told_in answers.old.own) (told_in answers.new.own) }
-    ensures lock { IsSeatOf lock.now main.new }
+    ensures lock { IsWatchSeatOf lock.now main.new }
     ensures len { vec_len answers.new.own.answers ≡ vec_len answers.old.own.answers + 1 }
     ensures others { answers.new.told ≡ answers.old.told }
     ensures room { (rest : List Step) → HasRoomForSteps answers.old.own (step.now ∷ rest) → HasRoomForSteps answers.new.own rest }
@@ -58,7 +58,7 @@ fn run_part<'a, R: Threads + Wait + Sync, G: Gate + Sync>(
     answers: &mut LifeAnswers,
 ) -> Result<(), AllocError>
     requires can { (rest : List (PartOf Step)) × CanRunParts lock.now main.old lanes.old.rest.items answers.old (part_of part.now ∷ rest) }
-    ensures gains { OnOk result (Gains main.old main.new (part_of part.now) (told_in answers.old.own) (told_in answers.new.own)
+    ensures gains { OnOk result (WatchGains main.old main.new (part_of part.now) (told_in answers.old.own) (told_in answers.new.own)
         (map told_in answers.old.told.items) (map told_in answers.new.told.items)) }
     ensures told_len { OnOk result (vec_len answers.new.told ≡ vec_len answers.old.told + width (part_of part.now)) }
     ensures can { OnOk result ((rest : List (PartOf Step)) → CanRunParts lock.now main.old lanes.old.rest.items answers.old (part_of part.now ∷ rest)
@@ -92,8 +92,8 @@ pub(crate) fn run_parts<'a, R: Threads + Wait + Sync, G: Gate + Sync>(
     requires can { CanRunParts lock.now main.old lanes.items answers.old (parts_of parts.now) }
     requires no_answers { told_in answers.old.own ≡ [] }
     requires none_told { (answers.old.told.items ≡ []) × (vec_len answers.old.told ≡ 0) }
-    ensures lived { OnOk result (HaveRunParts main.old main.new (parts_of parts.now) (told_in answers.new.own) (map told_in answers.new.told.items)) }
-    ensures lock { OnOk result (IsSeatOf lock.now main.new) }
+    ensures lived { OnOk result (HaveWatchedParts main.old main.new (parts_of parts.now) (told_in answers.new.own) (map told_in answers.new.told.items)) }
+    ensures lock { OnOk result (IsWatchSeatOf lock.now main.new) }
     ensures told_len { OnOk result (vec_len answers.new.told ≡ widths (parts_of parts.now)) }
 {
     let mut lanes = lanes.into_iter();

@@ -46,7 +46,7 @@ pub struct WatchLock {
 }
 
 impl WatchLock {
-    ghost use Rattle.flt_watch.specs.Lane.{IsSeatOf};
+    ghost use Rattle.flt_watch.specs.Lane.{IsWatchSeatOf};
 
     /// A lock over a unit that was started and took no call since, with these subscribers, each at 0, and its main seat, to which all
     /// calls are left: `room` calls in all, for which memory is taken here.
@@ -59,7 +59,7 @@ impl WatchLock {
         requires started { Stands (start_of (unit_in unit)) [] (unit_in unit) }
         requires zero { IsAtZero subs }
         ensures ok { IfOk result (λ made. made.1 ≡ main_seat made.0.turn (start_of (unit_in unit)) room) }
-        ensures lock { IfOk result (λ made. IsSeatOf made.0 made.1) }
+        ensures lock { IfOk result (λ made. IsWatchSeatOf made.0 made.1) }
         ensures kinds { IfOk result (λ made. kinds_of made.0.lent.subscribers ≡ kinds_in subs) }
     {
         let config = Snapshot::of(unit.state.config().config());
@@ -78,7 +78,7 @@ impl WatchLock {
         op: Op,
         response: &mut ArrayVec<u8, RESPONSE>,
     ) -> Result<Answer<ReplyKind>, HistoryFull<Op>>
-        requires lock { IsSeatOf self.now seat.old }
+        requires lock { IsWatchSeatOf self.now seat.old }
         requires admitted { IsAdmitted seat.old.start.config op }
         ensures call { CallsInto seat.old seat.new op response.new result }
         ensures kept { OnErr result (response.new ≡ response.old) }
@@ -89,7 +89,7 @@ impl WatchLock {
     /// Ends the lock, once each seat that was split from the main seat was joined. The subscribers come back with the whole journal,
     /// and each has the value that the changes of its calls give.
     pub fn close(self, main: WatchSeat) -> WatchEnd
-        requires lock { IsSeatOf self main }
+        requires lock { IsWatchSeatOf self main }
         requires main { main.number ≡ 0 }
         requires whole { length main.ended ≡ main.children }
         ensures seen { IsPrefix main.seen result.journal.items }

@@ -6,7 +6,7 @@ ghost use Rattle.flt_restore.specs.declared.fault.StartFault.TheVariants.{Flash}
 ghost use Rattle.flt_step.specs.Part.{parts_of};
 ghost use Rattle.flt_life_model.specs.declared.life.Boot.TheVariants.{Refused};
 ghost use Rattle.flt_life_model.specs.Parts.{widths};
-ghost use Rattle.flt_notify.specs.Table.{value_in};
+ghost use Rattle.flt_notify.specs.Table.{value_of_kind};
 ghost use Rattle.flt_watch.specs.Text.{other_line, value_line, value_text, values_text, watch_text};
 
 use crate::life::WatchedLife;
@@ -39,7 +39,7 @@ fn write_value<K: Sink>(
     kind: u8,
     sink: &mut K,
 ) -> Result<(), StreamFault>
-    ensures { Writes K.held K.faults sink.old sink.new (value_text kind (value_in subs.now kind)) result }
+    ensures { Writes K.held K.faults sink.old sink.new (value_text kind (value_of_kind subs.now kind)) result }
 {
     match subs.value(kind) {
         Some(value) => {
@@ -56,7 +56,7 @@ fn write_values<K: Sink>(
     subs: &SubTable<KINDS>,
     sink: &mut K,
 ) -> Result<(), StreamFault>
-    ensures { Writes K.held K.faults sink.old sink.new (values_text (value_in subs.now)) result }
+    ensures { Writes K.held K.faults sink.old sink.new (values_text (value_of_kind subs.now)) result }
 {
     write_value(alloc, subs, 0, sink)?;
     write_value(alloc, subs, 1, sink)?;
@@ -73,7 +73,7 @@ pub(crate) fn write_watched<K: Sink>(
     requires flash { watched.now.life.boot ≢ Refused Flash }
     requires lanes { widths (parts_of parts.now) + 1 < 2 ^ 32 }
     ensures { Writes K.held K.faults sink.old sink.new
-        (watch_text (parts_of parts.now) watched.now.life.boot watched.now.life.replies.items (value_in watched.now.subs)) result }
+        (watch_text (parts_of parts.now) watched.now.life.boot watched.now.life.replies.items (value_of_kind watched.now.subs)) result }
 {
     let WatchedLife { life, subs } = watched;
     let mut line = Vec::new(alloc);

@@ -3,12 +3,12 @@ ghost use Rattle.std.specs.Prelude.{◌≡◌, ◌⊎◌, IsTrue};
 ghost use Rattle.flt_config.specs.declared.persist.Persist.{Persist};
 ghost use Rattle.flt_did.specs.Serves.{Serves};
 ghost use Rattle.flt_did.specs.Table.{dids_of};
-ghost use Rattle.flt_io.specs.Status.{number_of};
+ghost use Rattle.flt_io.specs.Status.{status_number};
 ghost use Rattle.flt_life_model.specs.declared.life.Boot.TheVariants.{Started};
 ghost use Rattle.flt_notify.specs.Table.{IsAtZero, kinds_in, values_in};
 ghost use Rattle.flt_script.specs.Script.{content};
 ghost use Rattle.flt_watch.specs.Asked.{is_watchable};
-ghost use Rattle.flt_watch.specs.Watch.{IsMadeOf, IsNoState, IsUnmade, WantsMemory, Watches, status_by};
+ghost use Rattle.flt_watch.specs.Watch.{IsMadeOf, IsNoState, IsUnmade, WantsMemory, Watches, status_written};
 ghost use Rattle.flt_filter.specs.Verdict.{reading_of, writing_of};
 
 use crate::asking::{Asked, ask};
@@ -61,7 +61,7 @@ fn no_state() -> Persist
 
 /// The status, by whether the text that is due was written.
 fn status_by(due: Status, written: Result<(), StreamFault>) -> Status
-    ensures { number_of result ≡ status_by (number_of due) written }
+    ensures { status_number result ≡ status_written (status_number due) written }
 {
     match written {
         Ok(()) => due,
@@ -72,7 +72,7 @@ fn status_by(due: Status, written: Result<(), StreamFault>) -> Status
 
 /// No life was made.
 fn unmade(alloc: Global, status: Status, subs: SubTable<KINDS>) -> WatchOutcome
-    ensures status { result.status ≡ number_of status }
+    ensures status { result.status ≡ status_number status }
     ensures unmade { IsUnmade (kinds_in subs) (values_in subs) result }
 {
     WatchOutcome {
@@ -87,7 +87,7 @@ fn unmade(alloc: Global, status: Status, subs: SubTable<KINDS>) -> WatchOutcome
 /// A life was made, and told with this status.
 fn made(status: Status, watched: WatchedLife) -> WatchOutcome
     requires { (base : Persist) × (watched.life.boot ≡ Started 0 base) }
-    ensures status { result.status ≡ number_of status }
+    ensures status { result.status ≡ status_number status }
     ensures boot { watched.life.boot ≡ Started 0 result.base }
     ensures journal { result.journal.items ≡ watched.life.journal.items }
     ensures answers { result.answers.items ≡ watched.life.replies.items }

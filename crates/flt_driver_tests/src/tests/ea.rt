@@ -1,7 +1,7 @@
 //! The driver over an EEPROM in memory: worked rows, and each write of a job cut and made to fail.
 ghost use Rattle.std.specs.Prelude.{◌≤◌, IfOk, Contains};
-ghost use Rattle.flt_ea.specs.Memory.{state_of as device_state};
-ghost use Rattle.flt_ea.specs.Ea.{state_of};
+ghost use Rattle.flt_ea.specs.Memory.{eeprom_state as device_state};
+ghost use Rattle.flt_ea.specs.Ea.{ea_state};
 
 mod cuts;
 mod order;
@@ -17,8 +17,8 @@ use std::test::Fail;
 /// A driver of the blocks 8 and 9.
 pub fn two_blocks<E: Eeprom + Drop>(alloc: Global, device: E) -> Result<Ea<E>, Fail>
     requires { 20 ≤ (E.state device).pages }
-    ensures first { IfOk result (λ ea. Contains (state_of E.state ea).numbers 8) }
-    ensures second { IfOk result (λ ea. Contains (state_of E.state ea).numbers 9) }
+    ensures first { IfOk result (λ ea. Contains (ea_state E.state ea).numbers 8) }
+    ensures second { IfOk result (λ ea. Contains (ea_state E.state ea).numbers 9) }
 {
     match Ea::make(alloc, device, vec![in alloc; 8, 9]?) {
         Ok(ea) => Ok(ea),

@@ -1,7 +1,7 @@
 //! The driver over a flash in memory: worked rows, and each operation of a job cut and made to fail.
 ghost use Rattle.std.specs.Prelude.{◌≤◌, IfOk, Contains};
-ghost use Rattle.flt_flash.specs.Memory.{state_of as flash_state};
-ghost use Rattle.flt_fee.specs.Fee.{state_of};
+ghost use Rattle.flt_flash.specs.Memory.{flash_state as flash_state};
+ghost use Rattle.flt_fee.specs.Fee.{fee_state};
 
 mod costs;
 mod cuts;
@@ -19,8 +19,8 @@ use std::test::Fail;
 pub fn two_blocks<F: Bench + Drop>(alloc: Global, flash: F, used: u16) -> Result<Fee<F>, Fail>
     requires least { 4 ≤ used }
     requires most { used ≤ (F.state flash).pages }
-    ensures first { IfOk result (λ fee. Contains (state_of F.state fee).numbers 8) }
-    ensures second { IfOk result (λ fee. Contains (state_of F.state fee).numbers 9) }
+    ensures first { IfOk result (λ fee. Contains (fee_state F.state fee).numbers 8) }
+    ensures second { IfOk result (λ fee. Contains (fee_state F.state fee).numbers 9) }
 {
     match Fee::make(alloc, flash, used, vec![in alloc; 9, 8]?) {
         Ok(fee) => Ok(fee),

@@ -1,7 +1,7 @@
 //! A flash and an EEPROM that a store of bytes keeps, and the drivers over them.
 ghost use Rattle.std.specs.Prelude.{Contains, IfOk};
-ghost use Rattle.flt_fee.specs.Fee.{state_of as fee_state};
-ghost use Rattle.flt_ea.specs.Ea.{state_of as ea_state};
+ghost use Rattle.flt_fee.specs.Fee.{fee_state as fee_state};
+ghost use Rattle.flt_ea.specs.Ea.{ea_state as ea_state};
 
 mod keeping;
 mod layout;

@@ -1,7 +1,7 @@
 //! The entries beside a plain restatement of which event has one, on calls drawn at random.
 
 ghost use Rattle.std.specs.Prelude.{◌<◌, ◌↔◌, IsTrue, length};
-ghost use Rattle.flt_dem.specs.Dem.{config_of};
+ghost use Rattle.flt_dem.specs.Dem.{manager_config};
 
 use arrayvec::ArrayVec;
 use flt_config::{Config, EventCfg, check};
@@ -60,7 +60,7 @@ impl Plain {
 }
 
 fn has_event(dem: &Dem, event: u16) -> bool
-    ensures { IsTrue result ↔ (event < length (config_of dem.now).events.items) }
+    ensures { IsTrue result ↔ (event < length (manager_config dem.now).events.items) }
 {
     (event as usize) < dem.config().config().events.len()
 }

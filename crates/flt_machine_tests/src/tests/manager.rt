@@ -1,6 +1,6 @@
 //! The entries, frames and noted events of a manager, as its calls tell them. Its steps are worked in the scripts of the examples.
 ghost use Rattle.std.specs.Prelude.{◌<◌, ◌↔◌, IsTrue, length};
-ghost use Rattle.flt_dem.specs.Dem.{config_of};
+ghost use Rattle.flt_dem.specs.Dem.{manager_config};
 
 use arrayvec::ArrayVec;
 use flt_config::{Config, DIDS, DidUse, EventCfg, check, initial};
@@ -51,7 +51,7 @@ fn manager() -> Option<Dem> {
 }
 
 fn has_event(dem: &Dem) -> bool
-    ensures { IsTrue result ↔ (0 < length (config_of dem.now).events.items) }
+    ensures { IsTrue result ↔ (0 < length (manager_config dem.now).events.items) }
 {
     0 < dem.config().config().events.len()
 }

@@ -206,10 +206,10 @@ struct HeldFlash<'a> {
 }
 
 impl Flash for HeldFlash<'_> {
-    ghost use Rattle.flt_flash.specs.Memory.{state_of};
+    ghost use Rattle.flt_flash.specs.Memory.{flash_state};
     ghost use Rattle.flt_flash.specs.Shape.{shape_of};
 
-    ghost state = { λ held. state_of held.flash };
+    ghost state = { λ held. flash_state held.flash };
 
     ghost shape = { λ held. shape_of held.flash };
 

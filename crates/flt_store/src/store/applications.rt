@@ -8,7 +8,7 @@ ghost use Rattle.flt_store_model.specs.Form.{application_length};
 ghost use Rattle.flt_store_model.specs.Layout.{applications, application_number};
 ghost use Rattle.flt_image.specs.Table.{block_table};
 ghost use Rattle.flt_store.specs.Applications.{CanPut};
-ghost use Rattle.flt_store.specs.Cause.{Writes};
+ghost use Rattle.flt_store.specs.Cause.{StoreWrites};
 
 use super::Store;
 use crate::fault::PutFault;
@@ -34,7 +34,7 @@ fn write_application<B: Blocks + Drop>(
     requires can { CanPut block bytes.now }
     ensures gives { Gives (driver_beneath nvm.old) (driver_beneath nvm.new) (application_number block) (holding bytes.now) (length bytes.now) result }
     ensures not_stale { OnOk result (IsFalse (driver_beneath nvm.new).is_stale) }
-    ensures writes { Writes (driver_beneath nvm.old) (driver_beneath nvm.new) result }
+    ensures writes { StoreWrites (driver_beneath nvm.old) (driver_beneath nvm.new) result }
     ensures table { table_of nvm.new ≡ table_of nvm.old }
 {
     nvm.write(FIRST_APPLICATION + block as u16, 0, bytes)

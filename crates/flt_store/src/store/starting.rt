@@ -10,7 +10,7 @@ ghost use Rattle.flt_store_model.specs.Holding.{Generation};
 ghost use Rattle.flt_store_model.specs.Laws.{IsGiven};
 ghost use Rattle.flt_image.specs.Table.{block_table};
 ghost use Rattle.flt_restore.specs.Restored.{IsMarkDue};
-ghost use Rattle.flt_store.specs.Cause.{HasRoom, Writes};
+ghost use Rattle.flt_store.specs.Cause.{HasRoom, StoreWrites};
 ghost use Rattle.flt_store.specs.Start.{Begins};
 ghost use Rattle.flt_store.specs.Starting.{BeginsWith, HasRead, WritesMark};
 ghost use Rattle.flt_store.specs.Leaving.{LeavesDriver};
@@ -37,7 +37,7 @@ fn write_mark<B: Blocks + Drop>(
     ensures mark { (c : Config) → mark.now ≡ mark_of c → WritesMark c (driver_beneath nvm.old) (driver_beneath nvm.new) result }
     ensures others { OthersKept mark_number (driver_beneath nvm.old) (driver_beneath nvm.new) }
     ensures not_stale { OnOk result (IsFalse (driver_beneath nvm.new).is_stale) }
-    ensures writes { Writes (driver_beneath nvm.old) (driver_beneath nvm.new) result }
+    ensures writes { StoreWrites (driver_beneath nvm.old) (driver_beneath nvm.new) result }
     ensures table { table_of nvm.new ≡ table_of nvm.old }
 {
     if is_due {

@@ -1,7 +1,7 @@
 //! What is restored of an image, over the driver of an EEPROM.
 ghost use Rattle.std.specs.Prelude.{◌≡◌, IfOk};
-ghost use Rattle.flt_ea.specs.Ea.{state_of};
-ghost use Rattle.flt_ea.specs.Memory.{state_of as device_state};
+ghost use Rattle.flt_ea.specs.Ea.{ea_state};
+ghost use Rattle.flt_ea.specs.Memory.{eeprom_state as device_state};
 ghost use Rattle.flt_store_model.specs.Layout.{numbers};
 
 use super::*;
@@ -44,7 +44,7 @@ fn restored(
     config: &ValidConfig,
     out: &mut Persist,
 ) -> Result<Result<Restored, StartFault>, Fail>
-    requires { (state_of device_state driver).numbers ≡ numbers }
+    requires { (ea_state device_state driver).numbers ≡ numbers }
 {
     laws::numbers_serve_table();
     let mut nvm = Nvm::make(driver, block_table(alloc)?);
@@ -82,7 +82,7 @@ fn a_blank_image_holds_the_first_generation(rt: HostRuntime) -> Result<(), Fail>
 
 /// The blocks of generation 7, under a mark of version 1. The first copy of the commit is missing.
 fn saved(alloc: Global) -> Result<Ea<EepromMem>, Fail>
-    ensures { IfOk result (λ driver. (state_of device_state driver).numbers ≡ numbers) }
+    ensures { IfOk result (λ driver. (ea_state device_state driver).numbers ≡ numbers) }
 {
     let mut driver = units_driver(alloc, 0)?;
     driver.write(8, &MARK)?;

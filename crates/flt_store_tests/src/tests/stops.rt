@@ -1,7 +1,7 @@
 //! The jobs over a flash and an EEPROM that a store of bytes keeps, which stops in each write after each number of its bytes: what the bytes
 //! then hold is opened again, and says what stood before the call that failed, or what it asked for.
 ghost use Rattle.std.specs.Prelude.{◌≡◌, IfOk, Some};
-ghost use Rattle.flt_file.specs.MemBytes.{bytes_of};
+ghost use Rattle.flt_file.specs.MemBytes.{memory_bytes};
 ghost use Rattle.flt_store_tests.specs.Room.{IsRoomy, SameRoom};
 
 use super::cuts::{
@@ -42,7 +42,7 @@ struct Noted {
 impl Noted {
     /// These bytes, which may stop. Their read at the opening counts as number 0.
     fn new(bytes: Vec<u8>, stop: Option<Stop>) -> Noted
-        ensures { bytes_of result.bytes ≡ bytes.items }
+        ensures { memory_bytes result.bytes ≡ bytes.items }
     {
         Noted {
             bytes: match stop {
@@ -55,7 +55,7 @@ impl Noted {
 }
 
 impl ByteStore for Noted {
-    ghost told = { λ store. Some (bytes_of store.bytes) };
+    ghost told = { λ store. Some (memory_bytes store.bytes) };
 
     fn read(&mut self, out: &mut [u8]) -> Result<(), StoreFault> {
         self.bytes.read(out)

@@ -5,7 +5,7 @@ ghost use Rattle.hex.specs.Hex.{IsBytes, encode_upper};
 ghost use Rattle.flt_config.specs.Durable.{Fits};
 ghost use Rattle.flt_store_model.specs.Form.{block_bytes};
 ghost use Rattle.flt_store_model.specs.Layout.{is_used};
-ghost use Rattle.flt_trace.specs.Base.{IsBaseOf, block_text};
+ghost use Rattle.flt_trace.specs.Base.{IsBaseOf, base_block_text};
 
 use flt_config::{Persist, ValidConfig};
 use flt_image::{BlockBytes, is_used, put_block};
@@ -29,7 +29,7 @@ fn block_text(
 ) -> Result<String, AllocError>
     requires used { IsTrue (is_used config.now id) }
     requires fits { Fits config.now state.now }
-    ensures text { IfOk result (λ text. string_bytes text ≡ block_text state.now id) }
+    ensures text { IfOk result (λ text. string_bytes text ≡ base_block_text state.now id) }
     ensures bytes { IsBytes (block_bytes state.now id) }
 {
     let mut bytes = BlockBytes::new();

@@ -4,7 +4,7 @@ ghost use Rattle.std.specs.String.{string_bytes};
 ghost use Rattle.hex.specs.declared.error.FromHexError.TheVariants.{OutOfMemory};
 ghost use Rattle.hex.specs.Hex.{IsBytes, encode_upper};
 ghost use Rattle.flt_config.specs.declared.persist.Persist.{Persist as State};
-ghost use Rattle.flt_trace.specs.Trace.{seen};
+ghost use Rattle.flt_trace.specs.Trace.{texts_seen};
 ghost use Rattle.flt_trace.specs.Base.{IsBaseOf};
 
 use crate::base::printing::base_texts;
@@ -44,7 +44,7 @@ fn take_blocks(
     config: &ValidConfig,
     texts: &[&str],
 ) -> Result<Option<Persist>, AllocError>
-    ensures { IfOk result (λ found. (state : State) → IsBaseOf config.now (seen texts.now) state →
+    ensures { IfOk result (λ found. (state : State) → IsBaseOf config.now (texts_seen texts.now) state →
         MatchOption found ⊥ (λ taken. taken ≡ state)) }
 {
     // A witness for the checker: a configuration that has a mark has sizes of which the blocks have room.
@@ -72,7 +72,7 @@ fn take_blocks(
 
 /// Whether these texts are the printed ones.
 fn are_same(texts: &[&str], printed: &[String]) -> bool
-    ensures { IsTrue result ↔ (seen texts.now ≡ map string_bytes printed.now) }
+    ensures { IsTrue result ↔ (texts_seen texts.now ≡ map string_bytes printed.now) }
 {
     if texts.len() != printed.len() {
         return false;
@@ -94,8 +94,8 @@ pub fn read_base(
     texts: &[&str],
 ) -> Result<Option<Persist>, AllocError>
     ensures { IfOk result (λ found. MatchOption found
-        ((state : State) → IsBaseOf config.now (seen texts.now) state → ⊥)
-        (λ state. IsBaseOf config.now (seen texts.now) state)) }
+        ((state : State) → IsBaseOf config.now (texts_seen texts.now) state → ⊥)
+        (λ state. IsBaseOf config.now (texts_seen texts.now) state)) }
 {
     let Some(state) = take_blocks(alloc, config, texts)? else {
         return Ok(None);

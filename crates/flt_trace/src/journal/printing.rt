@@ -7,7 +7,7 @@ ghost use Rattle.flt_model.specs.declared.call.Op.{Op as Call};
 ghost use Rattle.flt_script.specs.Laws.{are_bytes, is_held};
 ghost use Rattle.flt_step.specs.Words.{with_number};
 ghost use Rattle.flt_turn.specs.Journal.{ops_of};
-ghost use Rattle.flt_trace.specs.Call.{AreCallTexts, CanBeMade, IsCallText, IsOfSave, IsOfStep, IsOpText, IsSaveCall, step_of};
+ghost use Rattle.flt_trace.specs.Call.{AreCallTexts, CanBeMade, IsCallText, IsOfSave, IsOfStep, IsOpText, IsSaveCall, step_making};
 
 use crate::text::text_of;
 use flt_life_model::Entry;
@@ -25,7 +25,7 @@ fn witness(bytes: &[u8])
 
 /// The step that makes a call; none makes those of a save.
 fn step_of(op: &Op) -> Option<Step>
-    ensures step { result ≡ step_of op.now }
+    ensures step { result ≡ step_making op.now }
     ensures held { IfSome result (λ step. is_held step ≡ true) }
 {
     match op {
@@ -80,7 +80,7 @@ fn save_words(alloc: Global, op: &Op) -> Result<String, AllocError>
 /// The words of a step.
 fn step_words(alloc: Global, step: &Step) -> Result<String, AllocError>
     requires { is_held step.now ≡ true }
-    ensures { IfOk result (λ words. (c : Config) (op : Call) → step_of op ≡ Some step.now → CanBeMade c op → IsOfStep c op (string_bytes words)) }
+    ensures { IfOk result (λ words. (c : Config) (op : Call) → step_making op ≡ Some step.now → CanBeMade c op → IsOfStep c op (string_bytes words)) }
 {
     printed_step_is_read_again();
     let mut words = Vec::new(alloc);

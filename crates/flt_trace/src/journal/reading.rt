@@ -6,7 +6,7 @@ ghost use Rattle.flt_dcm.specs.Unit.{IsAdmitted};
 ghost use Rattle.flt_turn.specs.Journal.{ops_of};
 ghost use Rattle.flt_turn.specs.declared.vault.Entry.{Entry as Made};
 ghost use Rattle.flt_life_model.specs.Actions.{action_of};
-ghost use Rattle.flt_trace.specs.Trace.{seen};
+ghost use Rattle.flt_trace.specs.Trace.{texts_seen};
 ghost use Rattle.flt_trace.specs.Call.{AreCallTexts, IsCallText, IsOfSave, IsOfStep, IsOpText, is_space};
 
 use flt_config::ValidConfig;
@@ -131,8 +131,8 @@ pub fn read_calls(
     texts: &[&str],
 ) -> Result<Option<Vec<Entry<Op>>>, AllocError>
     ensures read { IfOk result (λ found. MatchOption found
-        ((calls : List (Made Call)) → AreCallTexts config.now calls (seen texts.now) → ⊥)
-        (λ calls. AreCallTexts config.now calls.items (seen texts.now))) }
+        ((calls : List (Made Call)) → AreCallTexts config.now calls (texts_seen texts.now) → ⊥)
+        (λ calls. AreCallTexts config.now calls.items (texts_seen texts.now))) }
     ensures admitted { IfOk result (λ found. IfSome found (λ calls. All (IsAdmitted config.now) (ops_of calls.items))) }
 {
     let mut calls = Vec::with_capacity(alloc, texts.len())?;

@@ -3,7 +3,7 @@ ghost use Rattle.std.specs.Prelude.{◌≡◌, ◌≢◌, ℕ, List, Some, IfOk,
 ghost use Rattle.serde_json.specs.Data.{array};
 ghost use Rattle.serde_json.specs.Find.{get};
 ghost use Rattle.serde_json.specs.View.{view};
-ghost use Rattle.flt_trace.specs.Trace.{IsTrace, Texts, member_count, seen, strings, texts_of};
+ghost use Rattle.flt_trace.specs.Trace.{IsTrace, Texts, member_count, texts_seen, strings, texts_of};
 
 use crate::object::trace::Trace;
 use serde_json::Value;
@@ -16,7 +16,7 @@ const MEMBERS: usize = 4;
 fn strings_in<'a>(alloc: Global, value: &'a Value) -> Result<Option<Vec<&'a str>>, AllocError>
     ensures { IfOk result (λ found. MatchOption found
         ((texts : List (List ℕ)) → view value.now ≢ array (strings texts))
-        (λ texts. view value.now ≡ array (strings (seen texts.items)))) }
+        (λ texts. view value.now ≡ array (strings (texts_seen texts.items)))) }
 {
     let Some(items) = value.as_array() else {
         return Ok(None);
@@ -39,7 +39,7 @@ fn strings_under<'a>(
 ) -> Result<Option<Vec<&'a str>>, AllocError>
     ensures { IfOk result (λ found. MatchOption found
         ((texts : List (List ℕ)) → get key.now (view value.now) ≢ Some (array (strings texts)))
-        (λ texts. get key.now (view value.now) ≡ Some (array (strings (seen texts.items))))) }
+        (λ texts. get key.now (view value.now) ≡ Some (array (strings (texts_seen texts.items))))) }
 {
     match value.get(key) {
         Some(found) => strings_in(alloc, found),

@@ -1,7 +1,7 @@
 //! A trace that is read as it is printed, token by token.
 ghost use Rattle.std.specs.Prelude.{◌≡◌, Some, IfOk, IfSome, IsUtf8};
 ghost use Rattle.serde_json.specs.Read.{read};
-ghost use Rattle.flt_trace.specs.Trace.{array_tokens, last_tokens, list_tokens, seen, texts_of, trace_data, trace_tokens};
+ghost use Rattle.flt_trace.specs.Trace.{array_tokens, last_tokens, list_tokens, texts_seen, texts_of, trace_data, trace_tokens};
 
 use crate::object::trace::Trace;
 use json::{Reader, Scratch, Token};
@@ -13,7 +13,7 @@ fn strings_left<'a>(
     reader: &mut Reader<'a>,
     room: usize,
 ) -> Result<Option<Vec<&'a str>>, AllocError>
-    ensures { IfOk result (λ found. IfSome found (λ texts. reader.old ≡ array_tokens (seen texts.items) reader.new)) }
+    ensures { IfOk result (λ found. IfSome found (λ texts. reader.old ≡ array_tokens (texts_seen texts.items) reader.new)) }
 {
     let mut texts = Vec::with_capacity(alloc, room)?;
     while let Some(token) = reader.next() {
@@ -33,7 +33,7 @@ fn strings_of<'a>(
     key: &str,
     room: usize,
 ) -> Result<Option<Vec<&'a str>>, AllocError>
-    ensures { IfOk result (λ found. IfSome found (λ texts. reader.old ≡ list_tokens key.now (seen texts.items) reader.new)) }
+    ensures { IfOk result (λ found. IfSome found (λ texts. reader.old ≡ list_tokens key.now (texts_seen texts.items) reader.new)) }
 {
     match reader.next() {
         Some(Token::Key(found)) if found == key => {}

@@ -2,7 +2,7 @@ use Rattle.std.proofs.Common.{◌≡◌, ◌∙◌, Ok, None, sym, ap}
 use Rattle.flt_model.specs.Happening.{clear_asked}
 use Rattle.flt_model.specs.Request.{asked}
 use Rattle.flt_model.specs.Response.{positive, responded, response_to, service_of}
-use Rattle.flt_dem.specs.View.{view_of}
+use Rattle.flt_dem.specs.View.{manager_view}
 use Rattle.flt_dcm.specs.Session.{is_extended_one}
 use Rattle.flt_dcm.proofs.AskedLemmas.{clear_same}
 use Rattle.flt_dcm.proofs.DtcLemmas.{stands_uncleared}
@@ -19,7 +19,7 @@ returns-in-Ok-clause-stands c = λ life past tester sent same s.
 pub returns-in-Ok-clause-answer : goal.returns-in-Ok-clause-answer
 returns-in-Ok-clause-answer c =
     let bytes = c.args.bytes.now in
-    let view = view_of c.args.dem.now in
+    let view = manager_view c.args.dem.now in
     let extended = c.is_extended.ensures ∙ ap is_extended_one c.heard.ensures ∙ heard_extended c.args.session.now in
     let told : asked (is_extended_one c.args.session.now) bytes ≡ Ok c.in-Ok.asked = ap (λ e. asked e bytes) (sym extended) ∙ sym c.read.ensures.exact ∙ c.in-Ok.is in
     c.respond.ensures.answer

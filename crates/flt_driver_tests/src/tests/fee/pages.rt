@@ -1,7 +1,7 @@
 //! What the definitions say of worked pages, and what torn programs and erases leave of a flash in memory.
 ghost use Rattle.std.specs.Prelude.{◌≡◌, ◌<◌, ◌≤◌, IfOk};
 ghost use Rattle.flt_flash.specs.Image.{page_at, blank_page};
-ghost use Rattle.flt_flash.specs.Memory.{state_of};
+ghost use Rattle.flt_flash.specs.Memory.{flash_state};
 
 mod damaged;
 mod torn;
@@ -24,8 +24,8 @@ const START: [u8; 32] = [
 #[tactic(auto, unfolding(flt_flash::specs::Image::blank_page))]
 fn assert_blank(rt: &impl Abort, flash: &FlashMem, sector: u8, page: u16)
     requires sector { sector < 2 }
-    requires page { page < (state_of flash.now).pages }
-    ensures { page_at (state_of flash.now).image sector page ≡ blank_page }
+    requires page { page < (flash_state flash.now).pages }
+    ensures { page_at (flash_state flash.now).image sector page ≡ blank_page }
 {
     assert!(rt;
         *flash.page(sector, page) == BLANK_PAGE,
@@ -54,9 +54,9 @@ fn a_start_gate_is_sealed(rt: HostRuntime) -> Result<(), Fail> {
 
 /// A flash of two sectors of 64 blank pages, of which the first is begun under number 1.
 fn begun(alloc: Global) -> Result<FlashMem, Fail>
-    ensures pages { IfOk result (λ flash. (state_of flash).pages ≡ 64) }
-    ensures boots { IfOk result (λ flash. (state_of flash).bench.boots_left ≡ 2) }
-    ensures armed { IfOk result (λ flash. (state_of flash).bench.armed ≡ 0) }
+    ensures pages { IfOk result (λ flash. (flash_state flash).pages ≡ 64) }
+    ensures boots { IfOk result (λ flash. (flash_state flash).bench.boots_left ≡ 2) }
+    ensures armed { IfOk result (λ flash. (flash_state flash).bench.armed ≡ 0) }
 {
     let mut flash = FlashMem::blank(alloc, 64, 2)?;
     begin(&mut flash, 0, 64, 1)?;
@@ -71,27 +71,27 @@ fn assert_item(
     page: u16,
     wanted: Result<Item, PageFault>,
 )
-    requires pages { (state_of flash.old).pages ≡ 64 }
+    requires pages { (flash_state flash.old).pages ≡ 64 }
     requires page { page ≤ 64 }
-    ensures pages { (state_of flash.new).pages ≡ 64 }
-    ensures boots { (state_of flash.new).bench.boots_left ≡ (state_of flash.old).bench.boots_left }
+    ensures pages { (flash_state flash.new).pages ≡ 64 }
+    ensures boots { (flash_state flash.new).bench.boots_left ≡ (flash_state flash.old).bench.boots_left }
 {
     assert!(rt; item(flash, 0, 64, page, numbers) == wanted, "page {page}");
 }
 
 /// Stops the test unless the gates of sector 0 tell this number.
 fn assert_gates(rt: &impl Abort, flash: &mut FlashMem, wanted: Option<u32>)
-    requires { (state_of flash.old).pages ≡ 64 }
-    ensures { (state_of flash.new).pages ≡ 64 }
+    requires { (flash_state flash.old).pages ≡ 64 }
+    ensures { (flash_state flash.new).pages ≡ 64 }
 {
     assert!(rt; gates(flash, 0, 64) == Ok(wanted), "{wanted:?}");
 }
 
 /// Puts the head of one byte of block 8 on page 2.
 fn put_head(rt: &impl Abort, flash: &mut FlashMem) -> Result<(), FlashFailed>
-    requires { (state_of flash.old).pages ≡ 64 }
-    ensures pages { (state_of flash.new).pages ≡ 64 }
-    ensures boots { (state_of flash.new).bench.boots_left ≡ (state_of flash.old).bench.boots_left }
+    requires { (flash_state flash.old).pages ≡ 64 }
+    ensures pages { (flash_state flash.new).pages ≡ 64 }
+    ensures boots { (flash_state flash.new).bench.boots_left ≡ (flash_state flash.old).bench.boots_left }
 {
     assert_blank(rt, flash, 0, 2);
     append_head(flash, 0, 2, 8, 1, true)
@@ -99,8 +99,8 @@ fn put_head(rt: &impl Abort, flash: &mut FlashMem) -> Result<(), FlashFailed>
 
 /// Puts the byte on page 3.
 fn put_piece(rt: &impl Abort, flash: &mut FlashMem) -> Result<(), FlashFailed>
-    requires { (state_of flash.old).pages ≡ 64 }
-    ensures { (state_of flash.new).pages ≡ 64 }
+    requires { (flash_state flash.old).pages ≡ 64 }
+    ensures { (flash_state flash.new).pages ≡ 64 }
 {
     assert_blank(rt, flash, 0, 3);
     append_piece(flash, 0, 3, &[0x07])
@@ -108,8 +108,8 @@ fn put_piece(rt: &impl Abort, flash: &mut FlashMem) -> Result<(), FlashFailed>
 
 /// Puts the gate on page 4.
 fn put_gate(rt: &impl Abort, flash: &mut FlashMem) -> Result<(), FlashFailed>
-    requires { (state_of flash.old).pages ≡ 64 }
-    ensures { (state_of flash.new).pages ≡ 64 }
+    requires { (flash_state flash.old).pages ≡ 64 }
+    ensures { (flash_state flash.new).pages ≡ 64 }
 {
     assert_blank(rt, flash, 0, 4);
     append_gate(flash, 0, 4, 8, 2)
@@ -117,8 +117,8 @@ fn put_gate(rt: &impl Abort, flash: &mut FlashMem) -> Result<(), FlashFailed>
 
 /// Makes the sector valid.
 fn put_active(rt: &impl Abort, flash: &mut FlashMem) -> Result<(), FlashFailed>
-    requires { (state_of flash.old).pages ≡ 64 }
-    ensures { (state_of flash.new).pages ≡ 64 }
+    requires { (flash_state flash.old).pages ≡ 64 }
+    ensures { (flash_state flash.new).pages ≡ 64 }
 {
     assert_blank(rt, flash, 0, 1);
     activate(flash, 0, 1)
@@ -126,8 +126,8 @@ fn put_active(rt: &impl Abort, flash: &mut FlashMem) -> Result<(), FlashFailed>
 
 /// Puts a record on a sector that is begun, and looks at it before and behind its gate.
 fn keep(rt: &impl Abort, flash: &mut FlashMem, numbers: &Numbers) -> Result<(), FlashFailed>
-    requires { (state_of flash.old).pages ≡ 64 }
-    ensures { (state_of flash.new).pages ≡ 64 }
+    requires { (flash_state flash.old).pages ≡ 64 }
+    ensures { (flash_state flash.new).pages ≡ 64 }
 {
     put_head(rt, flash)?;
     put_piece(rt, flash)?;
@@ -140,8 +140,8 @@ fn keep(rt: &impl Abort, flash: &mut FlashMem, numbers: &Numbers) -> Result<(), 
 
 /// Makes a sector with such a record valid.
 fn make_valid(rt: &impl Abort, flash: &mut FlashMem) -> Result<(), PageFault>
-    requires { (state_of flash.old).pages ≡ 64 }
-    ensures { (state_of flash.new).pages ≡ 64 }
+    requires { (flash_state flash.old).pages ≡ 64 }
+    ensures { (flash_state flash.new).pages ≡ 64 }
 {
     blank_from(flash, 0, 64, 5)?;
     assert_gates(rt, flash, None);
@@ -163,9 +163,9 @@ fn a_record_is_kept(rt: HostRuntime) -> Result<(), Fail> {
 
 /// Cuts the program of a head, and looks at it before the power comes back and behind that.
 fn tear(rt: &impl Abort, flash: &mut FlashMem, numbers: &Numbers)
-    requires pages { (state_of flash.old).pages ≡ 64 }
-    requires boots { (state_of flash.old).bench.boots_left ≡ 2 }
-    requires armed { (state_of flash.old).bench.armed ≡ 0 }
+    requires pages { (flash_state flash.old).pages ≡ 64 }
+    requires boots { (flash_state flash.old).bench.boots_left ≡ 2 }
+    requires armed { (flash_state flash.old).bench.armed ≡ 0 }
 {
     flash.arm(Arm::Cut {
         after: 1,

@@ -1,6 +1,6 @@
 //! Worked rows of the driver.
 ghost use Rattle.std.specs.Prelude.{◌≡◌, ◌+◌, ◌*◌, ◌≤◌, IfOk, vec_len};
-ghost use Rattle.flt_flash.specs.Memory.{state_of as flash_state};
+ghost use Rattle.flt_flash.specs.Memory.{flash_state as flash_state};
 ghost use Rattle.flt_code.specs.Word.{IsWord};
 
 use super::*;

@@ -3,13 +3,13 @@ use Rattle.flt_flash.specs.Blocks.{BlocksState}
 use Rattle.flt_sector_model.specs.Blocks.{block_value, first_fault}
 use Rattle.flt_nvm.specs.Driver.{driver_of}
 use Rattle.flt_store_model.specs.Image.{image_blocks, image_damage}
-use Rattle.flt_dump.specs.Copy.{state_of}
+use Rattle.flt_dump.specs.Copy.{copy_state}
 use Rattle.flt_dump.proofs.Holding.{told_damage, told_judged}
 use Rattle.flt_dump.proofs.held.held_in.Goals as goal
 
 pub returns-in-Err-Damaged : goal.returns-in-Err-Damaged
 returns-in-Err-Damaged c =
-    let image = (state_of c.args.copy).image in
+    let image = (copy_state c.args.copy).image in
     let made = ap (λ (b : BlocksState). b.damage) c.in-Ok.ensures.made in
     let at : image_damage c.args.config.now image ≡ Some (c.in-Err-Damaged.sector, c.in-Err-Damaged.page) =
     sym (λ i. first_fault (c.config.ensures.value i).pages (c.in_ok-numbers.ensures i) image) ∙ sym made ∙ (c.in-Err-Damaged.ensures.calls.damaged c.in-Err-Damaged.sector c.in-Err-Damaged.page (ap Err c.in-Err-Damaged.field-0-is)).0 in
@@ -21,7 +21,7 @@ unreachable-requires-in-Err-Full c = c.in-Err-Full.ensures.never_full.full c.in-
 pub returns : goal.returns
 returns c =
     let config = c.args.config.now in
-    let image = (state_of c.args.copy).image in
+    let image = (copy_state c.args.copy).image in
     let before = driver_of c.make-nvm.result in
     let after = driver_of c.judge.new.nvm in
     let fine : image_damage config image ≡ None =

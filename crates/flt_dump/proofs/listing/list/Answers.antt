@@ -6,7 +6,7 @@ use Rattle.flt_pages.specs.Told.{TellsOrFails, current_of, told_current}
 use Rattle.flt_sector_model.specs.Blocks.{current}
 use Rattle.flt_sector_model.specs.Log.{LogFrom, log}
 use Rattle.flt_pages.specs.declared.sectors.CurrentSector.{CurrentSector}
-use Rattle.flt_dump.specs.Copy.{state_of}
+use Rattle.flt_dump.specs.Copy.{copy_state}
 use Rattle.flt_dump.specs.Listed.{IsListed}
 use Rattle.flt_dump.specs.Listing.{sector_line}
 use Rattle.flt_dump.proofs.Listings.{lists_either, lists_no_sector}
@@ -14,7 +14,7 @@ use Rattle.flt_dump.proofs.listing.list.Goals as goal
 
 pub returns-in-Ok-None-clause-lines : goal.returns-in-Ok-None-clause-lines
 returns-in-Ok-None-clause-lines c =
-    let image = (state_of c.args.copy.now).image in
+    let image = (copy_state c.args.copy.now).image in
     let tells : TellsOrFails {T = Option CurrentSector} (Ok None) (told_current (current c.args.used image)) =
     subst (λ (o : Option CurrentSector). TellsOrFails {T = Option CurrentSector} (Ok o) (told_current (current c.args.used image))) c.in-Ok-None.field-0-is c.in-Ok-None.ensures.current in
     c.in_ok-extend_from_slice-in-Ok-None.ensures.items
@@ -23,7 +23,7 @@ returns-in-Ok-None-clause-lines c =
 
 pub returns-then-is_whole-clause-lines : goal.returns-then-is_whole-clause-lines
 returns-then-is_whole-clause-lines c =
-    let image = (state_of c.args.copy.now).image in
+    let image = (copy_state c.args.copy.now).image in
     let at = c.in-Ok-Some.at in
     let tells : TellsOrFails {T = Option CurrentSector} _ (told_current (current c.args.used image)) =
     subst (λ (o : Option CurrentSector). TellsOrFails {T = Option CurrentSector} (Ok o) (told_current (current c.args.used image))) c.in-Ok-Some.field-0-is c.in-Ok-Some.ensures.current in
@@ -35,7 +35,7 @@ returns-then-is_whole-clause-lines c =
 
 pub returns-clause-lines : goal.returns-clause-lines
 returns-clause-lines c =
-    let image = (state_of c.args.copy.now).image in
+    let image = (copy_state c.args.copy.now).image in
     let at = c.in-Ok-Some.at in
     let tells : TellsOrFails {T = Option CurrentSector} _ (told_current (current c.args.used image)) =
     subst (λ (o : Option CurrentSector). TellsOrFails {T = Option CurrentSector} (Ok o) (told_current (current c.args.used image))) c.in-Ok-Some.field-0-is c.in-Ok-Some.ensures.current in

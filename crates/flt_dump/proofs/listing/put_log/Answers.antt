@@ -3,7 +3,7 @@ use Rattle.flt_flash.specs.Blocks.{byte_pages}
 use Rattle.flt_flash.specs.Image.{sector_at}
 use Rattle.flt_sector_model.specs.Log.{item_at, first_written}
 use Rattle.flt_pages.proofs.Scanning.{item_told}
-use Rattle.flt_dump.specs.Copy.{state_of}
+use Rattle.flt_dump.specs.Copy.{copy_state}
 use Rattle.flt_dump.proofs.Putting.{Puts, puts_none, puts_torn, puts_record, puts_all, puts_fault, fault_told, blank_told}
 use Rattle.flt_dump.proofs.listing.put_log.Goals as goal
 
@@ -11,22 +11,22 @@ pub log-init : goal.log-init
 log-init c = record {
   image = refl;
   pages = refl;
-  puts = puts_none c.args.used c.args.numbers.now (sector_at (state_of c.args.copy.now).image c.args.sector) c.args.out.now.items c.requires.least;
+  puts = puts_none c.args.used c.args.numbers.now (sector_at (copy_state c.args.copy.now).image c.args.sector) c.args.out.now.items c.requires.least;
 }
 
 pub returns-in-Err-clause-listed : goal.returns-in-Err-clause-listed
 returns-in-Err-clause-listed c =
-    let pages = sector_at (state_of c.args.copy.now).image c.args.sector in
+    let pages = sector_at (copy_state c.args.copy.now).image c.args.sector in
     let same = ap (λ (image : List (List (List ℕ))). item_at c.args.used c.args.numbers.now (sector_at image c.args.sector) c.log.page) c.log.invariant.image in
-    let found = fault_told c.args.sector (item_at c.args.used c.args.numbers.now (sector_at (state_of c.log.copy).image c.args.sector) c.log.page) c.in-Err.field-0 c.in-Err.ensures.item
+    let found = fault_told c.args.sector (item_at c.args.used c.args.numbers.now (sector_at (copy_state c.log.copy).image c.args.sector) c.log.page) c.in-Err.field-0 c.in-Err.ensures.item
     (λ flash. let rose = c.in-Err.ensures.cause (ap Err flash) in omega (arith, rose)) in
     puts_fault c.args.used c.args.numbers.now pages c.args.out.now.items c.log.out.items c.log.page c.log.invariant.puts found.0 (sym same ∙ found.1)
 
 pub returns-in-Ok-End-clause-listed : goal.returns-in-Ok-End-clause-listed
 returns-in-Ok-End-clause-listed c =
-    let pages = sector_at (state_of c.args.copy.now).image c.args.sector in
+    let pages = sector_at (copy_state c.args.copy.now).image c.args.sector in
     let same = ap (λ (image : List (List (List ℕ))). item_at c.args.used c.args.numbers.now (sector_at image c.args.sector) c.log.page) c.log.invariant.image in
-    let found = sym same ∙ item_told c.args.sector c.in-Ok-End.field-0 (item_at c.args.used c.args.numbers.now (sector_at (state_of c.log.copy).image c.args.sector) c.log.page) c.in-Ok-End.ensures.item
+    let found = sym same ∙ item_told c.args.sector c.in-Ok-End.field-0 (item_at c.args.used c.args.numbers.now (sector_at (copy_state c.log.copy).image c.args.sector) c.log.page) c.in-Ok-End.ensures.item
     ∙ ap Ok c.in-Ok-End.field-0-is in
     let after = c.in-Ok-End.ensures.reads.image ∙ c.log.invariant.image in
     let written = ap (λ (image : List (List (List ℕ))). first_written (sector_at image c.args.sector) c.log.page (c.args.used - c.log.page)) after in
@@ -36,9 +36,9 @@ returns-in-Ok-End-clause-listed c =
 
 pub log-preserved-in-Ok-Torn : goal.log-preserved-in-Ok-Torn
 log-preserved-in-Ok-Torn c =
-    let pages = sector_at (state_of c.args.copy.now).image c.args.sector in
+    let pages = sector_at (copy_state c.args.copy.now).image c.args.sector in
     let same = ap (λ (image : List (List (List ℕ))). item_at c.args.used c.args.numbers.now (sector_at image c.args.sector) c.log.page) c.log.invariant.image in
-    let found = sym same ∙ item_told c.args.sector c.in-Ok-Torn.field-0 (item_at c.args.used c.args.numbers.now (sector_at (state_of c.log.copy).image c.args.sector) c.log.page) c.in-Ok-Torn.ensures.item
+    let found = sym same ∙ item_told c.args.sector c.in-Ok-Torn.field-0 (item_at c.args.used c.args.numbers.now (sector_at (copy_state c.log.copy).image c.args.sector) c.log.page) c.in-Ok-Torn.ensures.item
     ∙ ap Ok c.in-Ok-Torn.field-0-is in
     record {
       image = c.in-Ok-Torn.ensures.reads.image ∙ c.log.invariant.image;
@@ -49,9 +49,9 @@ log-preserved-in-Ok-Torn c =
 
 pub log-preserved : goal.log-preserved
 log-preserved c =
-    let pages = sector_at (state_of c.args.copy.now).image c.args.sector in
+    let pages = sector_at (copy_state c.args.copy.now).image c.args.sector in
     let same = ap (λ (image : List (List (List ℕ))). item_at c.args.used c.args.numbers.now (sector_at image c.args.sector) c.log.page) c.log.invariant.image in
-    let found = sym same ∙ item_told c.args.sector c.in-Ok-Kept.field-0 (item_at c.args.used c.args.numbers.now (sector_at (state_of c.log.copy).image c.args.sector) c.log.page) c.in-Ok-Kept.ensures.item
+    let found = sym same ∙ item_told c.args.sector c.in-Ok-Kept.field-0 (item_at c.args.used c.args.numbers.now (sector_at (copy_state c.log.copy).image c.args.sector) c.log.page) c.in-Ok-Kept.ensures.item
     ∙ ap Ok c.in-Ok-Kept.field-0-is in
     let next : c.log.page + 2 + byte_pages c.in-Ok-Kept.length ≡ c.from.result + 2 + c.from-in-Ok-Kept.result
     = (λ i. sym c.from.ensures i + 2 + (sym c.byte_pages.ensures ∙ sym c.from-in-Ok-Kept.ensures) i) in

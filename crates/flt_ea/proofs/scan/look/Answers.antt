@@ -1,7 +1,7 @@
 use Rattle.std.proofs.Common.{◌≡◌, ◌*◌, ◌+◌, ◌∙◌, ap, arith}
 use Rattle.flt_flash.specs.Image.{page_at}
 use Rattle.flt_flash.proofs.Following.{reads_on}
-use Rattle.flt_ea.specs.Image.{judged}
+use Rattle.flt_ea.specs.Image.{judged_places}
 use Rattle.flt_ea.proofs.Device.{one_reading}
 use Rattle.flt_ea.proofs.scan.look.Goals as goal
 
@@ -11,7 +11,7 @@ returns-clause-judged g c =
     let none : 10 * c.args.position ≡ 10 * c.args.position + 5 * 0 = omega arith in
     let first = c.in_ok-read_unit.ensures.read ∙ ap (λ unit. page_at image 0 unit) none in
     let second = c.in_ok-read_unit-2.ensures.read ∙ ap (λ found. page_at found 0 (10 * c.args.position + 5)) c.in_ok-read_unit.ensures.image in
-    c.judge.ensures ∙ (λ i. judged c.args.number (first i) (second i))
+    c.judge.ensures ∙ (λ i. judged_places c.args.number (first i) (second i))
 
 pub returns-clause-reads : goal.returns-clause-reads
 returns-clause-reads g c = reads_on

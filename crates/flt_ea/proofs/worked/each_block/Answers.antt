@@ -2,10 +2,10 @@ use Rattle.std.proofs.Common.{refl}
 use Rattle.flt_flash.specs.Image.{blank_page}
 use Rattle.flt_code.specs.Seal.{sealed, unsealed}
 use Rattle.flt_code.specs.Spoiled.{is_spoiled}
-use Rattle.flt_ea.specs.Gate.{gate_bytes, candidate, gate_of}
+use Rattle.flt_ea.specs.Gate.{gate_bytes, gate_candidate, gate_of}
 use Rattle.flt_ea.specs.Image.{value_from, spent_from, stuck_from, damage_from}
 use Rattle.flt_ea.proofs.worked.each_block.Goals as goal
 
 pub returns : goal.returns
-unfolding blank_page sealed unsealed is_spoiled gate_bytes candidate gate_of value_from spent_from stuck_from damage_from
+unfolding blank_page sealed unsealed is_spoiled gate_bytes gate_candidate gate_of value_from spent_from stuck_from damage_from
 returns c = record { contents = refl; undamaged = refl; unspent = refl; spent = refl; stuck = refl }

@@ -1,6 +1,6 @@
 use Rattle.std.proofs.Common.{ℕ, List, Option, Err, sym, ap, subst}
 use Rattle.std.specs.Prelude.{option_map}
-use Rattle.flt_filter.specs.Verdict.{HasCome, Inside, IsMade, due_of, whole}
+use Rattle.flt_filter.specs.Verdict.{HasCome, Inside, IsVerdictMade, due_of, whole}
 use Rattle.flt_filter.specs.declared.verdict.Verdict.{Verdict}
 use Rattle.flt_filter.proofs.Told.{judged_made, fault_made}
 use Rattle.flt_filter.proofs.answering.reckon.Goals as goal
@@ -14,7 +14,7 @@ returns-in-Ok g c =
       faults_after = g.S.Source.faults c.read_input.new.source;
     } in
     let IsJudged = g.J.Judge.is_judged c.args.judge in
-    subst (λ (made : Option Verdict). IsMade IsJudged inside (option_map due_of made)) (sym c.ok.ensures.value)
+    subst (λ (made : Option Verdict). IsVerdictMade IsJudged inside (option_map due_of made)) (sym c.ok.ensures.value)
     (judged_made IsJudged inside c.deref.result.now c.judge.result
     (subst (λ (bytes : List ℕ). HasCome inside (whole bytes)) (sym c.deref.ensures.value) c.in-Ok.ensures.read)
     c.judge.ensures)

@@ -9,7 +9,7 @@ use Rattle.flt_life_model.specs.declared.action.Action.TheVariants as action
 use Rattle.flt_life_model.specs.declared.replies.LaneReplies.{LaneReplies}
 use Rattle.flt_life_model.specs.declared.answer.StepAnswer.TheVariants as answers
 use Rattle.flt_lane.specs.Draining.{HasDrained}
-use Rattle.flt_lane.specs.Stepped.{HasRoomFor, TakesStep}
+use Rattle.flt_lane.specs.Stepped.{HasRoomForAnswer, TakesStep}
 use Rattle.flt_lane.proofs.Answering.{keeps, takes_deed}
 use Rattle.flt_lane.proofs.DrainEnds.{full_carries, short_carries, short_leaves}
 use Rattle.flt_lane.proofs.Drains.{drained_first, drained_more}
@@ -43,7 +43,7 @@ loop-job-preserved g c =
     }
 
 -- There is room for the answer, of which none is kept yet.
-room_still : (replies now : LaneReplies) → now ≡ replies → HasRoomFor replies action.Drain → vec_len now.answers < vec_capacity now.answers
+room_still : (replies now : LaneReplies) → now ≡ replies → HasRoomForAnswer replies action.Drain → vec_len now.answers < vec_capacity now.answers
 room_still replies now same room = subst (λ (r : LaneReplies). vec_len r.answers < vec_capacity r.answers) (sym same) (let answers = room.answers in omega (arith, answers))
 
 pub keep-requires-clause-answers : goal.keep-requires-clause-answers

@@ -1,8 +1,8 @@
 use Rattle.std.proofs.Common.{◌≡◌, ◌∙◌, [], Ok, Err, refl, ap, arith, subst, rules}
 use Rattle.std.specs.Prelude.{◌≢◌}
 use Rattle.flt_config.specs.declared.config.Config.{Config}
-use Rattle.flt_queue.specs.Stands.{Stands}
-use Rattle.flt_dcm.specs.Whole.{state_of}
+use Rattle.flt_queue.specs.Stands.{QueueStands}
+use Rattle.flt_dcm.specs.Whole.{unit_seen}
 use Rattle.flt_store.specs.Store.{driver_of}
 use Rattle.flt_live.specs.declared.line.Answered.TheVariants as told
 use Rattle.flt_live.specs.declared.reader.Line.{Line}
@@ -20,8 +20,8 @@ loop-init g c = record {
   later_read = omega arith;
   later_write = omega arith;
   going = λ first found living same.
-      going_first c.args.config.now first found _ (state_of c.args.unit.now) c.in-Ok.queue c.args.store.now living same
-      (subst (λ (k : Config). Stands k.blocks [] c.in-Ok.queue) c.config.ensures.value c.in-Ok.ensures.stands);
+      going_first c.args.config.now first found _ (unit_seen c.args.unit.now) c.in-Ok.queue c.args.store.now living same
+      (subst (λ (k : Config). QueueStands k.blocks [] c.in-Ok.queue) c.config.ensures.value c.in-Ok.ensures.stands);
 }
 
 pub loop-preserved : goal.loop-preserved
@@ -39,7 +39,7 @@ loop-preserved g c =
       going = λ first found living same. going_more c.args.config.now first found (driver_of c.args.store.now) g.K.Sink.held g.K.Sink.faults c.loop.sink c.answer_line.new.sink
           (talk (ahead_in (g.S.Source.left c.args.source.now) c.args.ear.now) (g.S.Source.faults c.args.source.now) (g.K.Sink.held c.args.sink.now) (g.K.Sink.faults c.args.sink.now))
           (ahead_in (g.S.Source.left c.loop.source) c.loop.ear) (ahead_in (g.S.Source.left c.hear.new.source) c.hear.new.self) (g.S.Source.faults c.loop.source) (g.S.Source.faults c.hear.new.source)
-          (state_of c.loop.unit) (state_of c.answer_line.new.unit) c.loop.queue c.answer_line.new.queue c.loop.store c.answer_line.new.store
+          (unit_seen c.loop.unit) (unit_seen c.answer_line.new.unit) c.loop.queue c.answer_line.new.queue c.loop.store c.answer_line.new.store
           c.in-Ok-hear.ended (kept_in c.hear.new.self) c.text-text.result.now c.in-Ok-hear.ensures.line other c.text-text.ensures (was.going first found living same) c.answer_line.result answered is;
     }
 
@@ -53,7 +53,7 @@ returns-in-Ok-Ended-clause-all g c =
           (talk (ahead_in (g.S.Source.left c.args.source.now) c.args.ear.now) (g.S.Source.faults c.args.source.now) (g.K.Sink.held c.args.sink.now) (g.K.Sink.faults c.args.sink.now))
           (talk ahead (g.S.Source.faults c.loop.source) (g.K.Sink.held c.loop.sink) (g.K.Sink.faults c.loop.sink))
           (talk next_ahead (g.S.Source.faults c.hear.new.source) (g.K.Sink.held c.loop.sink) (g.K.Sink.faults c.loop.sink))
-          (state_of c.loop.unit) c.loop.queue c.loop.store (c.loop.invariant.going first found living same) refl (kept_in c.hear.new.self)
+          (unit_seen c.loop.unit) c.loop.queue c.loop.store (c.loop.invariant.going first found living same) refl (kept_in c.hear.new.self)
           (subst (λ (e : Line). TakesLine ahead next_ahead e (kept_in c.hear.new.self)) c.in-Ok-Ended.field-0-is c.in-Ok-Ended.ensures.line);
       cause = tt;
       cut = tt;
@@ -68,7 +68,7 @@ returns-in-Err-clause-all g c =
           (talk (ahead_in (g.S.Source.left c.args.source.now) c.args.ear.now) (g.S.Source.faults c.args.source.now) (g.K.Sink.held c.args.sink.now) (g.K.Sink.faults c.args.sink.now))
           (talk (ahead_in (g.S.Source.left c.loop.source) c.loop.ear) (g.S.Source.faults c.loop.source) (g.K.Sink.held c.loop.sink) (g.K.Sink.faults c.loop.sink))
           (talk (ahead_in (g.S.Source.left c.hear.new.source) c.hear.new.self) (g.S.Source.faults c.hear.new.source) (g.K.Sink.held c.loop.sink) (g.K.Sink.faults c.loop.sink))
-          (state_of c.loop.unit) c.loop.queue c.loop.store (c.loop.invariant.going first found living same) refl
+          (unit_seen c.loop.unit) c.loop.queue c.loop.store (c.loop.invariant.going first found living same) refl
           (rose_later (g.S.Source.faults c.args.source.now) (g.S.Source.faults c.loop.source) (g.S.Source.faults c.hear.new.source) c.loop.invariant.later_read c.in-Err.ensures.cause.failed);
       cause = tt;
       cut = tt;
@@ -88,7 +88,7 @@ returns-in-Ok-Power g c =
         taken = λ first found living same. power_ends c.args.config.now first found (driver_of c.args.store.now) g.K.Sink.held g.K.Sink.faults c.loop.sink c.answer_line.new.sink
             (talk (ahead_in (g.S.Source.left c.args.source.now) c.args.ear.now) (g.S.Source.faults c.args.source.now) (g.K.Sink.held c.args.sink.now) (g.K.Sink.faults c.args.sink.now))
             (ahead_in (g.S.Source.left c.loop.source) c.loop.ear) (ahead_in (g.S.Source.left c.hear.new.source) c.hear.new.self) (g.S.Source.faults c.loop.source) (g.S.Source.faults c.hear.new.source)
-            (state_of c.loop.unit) (state_of c.answer_line.new.unit) c.loop.queue c.answer_line.new.queue c.loop.store c.answer_line.new.store
+            (unit_seen c.loop.unit) (unit_seen c.answer_line.new.unit) c.loop.queue c.answer_line.new.queue c.loop.store c.answer_line.new.store
             c.in-Ok-hear.ended (kept_in c.hear.new.self) c.text-text.result.now c.in-Ok-hear.ensures.line other c.text-text.ensures (was.going first found living same) c.answer_line.result answered is;
         cause = tt;
         cut = tt;
@@ -115,7 +115,7 @@ returns-in-Err-answer_line g c =
             (λ failed. answered.written.cause (c.in-Err-answer_line.is ∙ ap Err failed));
         cut = lost_cut c.in-Err-answer_line.fault c.lost_by.result _ c.lost_by.ensures
             (lost_ends c.args.config.now living.0 values (driver_of c.args.store.now) g.K.Sink.held g.K.Sink.faults c.loop.sink c.answer_line.new.sink start ahead next_ahead (g.S.Source.faults c.loop.source) (g.S.Source.faults c.hear.new.source)
-            (state_of c.loop.unit) (state_of c.answer_line.new.unit) c.loop.queue c.answer_line.new.queue c.loop.store c.answer_line.new.store
+            (unit_seen c.loop.unit) (unit_seen c.answer_line.new.unit) c.loop.queue c.answer_line.new.queue c.loop.store c.answer_line.new.store
             c.in-Ok-hear.ended (kept_in c.hear.new.self) c.text-text.result.now c.in-Ok-hear.ensures.line other c.text-text.ensures (was.going living.0 values living.1 (λ block below. refl)) c.answer_line.result answered
             c.in-Err-answer_line.fault c.in-Err-answer_line.is);
         later = record { read = omega (arith, was.later_read, c.in-Ok-hear.ensures.cause.later); write = omega (arith, was.later_write, answered.written.later) };

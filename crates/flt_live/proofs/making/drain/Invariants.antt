@@ -1,7 +1,7 @@
 use Rattle.std.proofs.Common.{◌≡◌, ◌≤◌, ◌+◌}
 use Rattle.flt_store_model.specs.Holding.{Generation}
 use Rattle.flt_queue.specs.Queue.{History}
-use Rattle.flt_queue.specs.Stands.{Stands}
+use Rattle.flt_queue.specs.Stands.{QueueStands}
 use Rattle.flt_flash.specs.Calls.{Follows}
 use Rattle.flt_store.specs.Store.{IsRunning, driver_of}
 use Rattle.flt_live.specs.Draining.{IsDraining}
@@ -13,5 +13,5 @@ invariant-loop-job g l = record {
   running : (held spare : Generation) → IsRunning l.config held spare l.initial.store → IsRunning l.config held spare l.store;
   few : l.written + l.failed ≤ l._job;
   follows : Follows (driver_of l.initial.store) (driver_of l.store);
-  draining : (jobs : History) → Stands l.config.blocks jobs l.initial.queue → IsDraining l.config jobs l._job l.written l.failed l.queue l.initial.store l.store;
+  draining : (jobs : History) → QueueStands l.config.blocks jobs l.initial.queue → IsDraining l.config jobs l._job l.written l.failed l.queue l.initial.store l.store;
 }

@@ -1,7 +1,7 @@
 use Rattle.std.proofs.Common.{◌<◌, ◌∙◌, ◌∷◌, sym, subst, arith}
 use Rattle.flt_store_model.specs.Layout.{applications}
-use Rattle.flt_dcm.specs.Whole.{state_of}
-use Rattle.flt_queue.specs.Stands.{Stands}
+use Rattle.flt_dcm.specs.Whole.{unit_seen}
+use Rattle.flt_queue.specs.Stands.{QueueStands}
 use Rattle.flt_life_model.specs.Actions.{IsPossible}
 use Rattle.flt_life_model.specs.Answers.{told_with}
 use Rattle.flt_live.proofs.Midway.{made_call, made_queue, made_save, made_drain, made_get}
@@ -10,21 +10,21 @@ use Rattle.flt_live.proofs.making.make.Goals as goal
 pub returns-in-Call-clause-made : goal.returns-in-Call-clause-made
 returns-in-Call-clause-made g c = λ step is.
     let possible = subst (IsPossible c.args.config.now) c.in-Call.is c.requires.possible in
-    made_call c.args.config.now step c.in-Call.op _ _ (is ∙ c.in-Call.is) possible.0 (state_of c.args.unit.now) (state_of c.apply_into-reply.new.self) c.args.queue.now c.args.store.now
+    made_call c.args.config.now step c.in-Call.op _ _ (is ∙ c.in-Call.is) possible.0 (unit_seen c.args.unit.now) (unit_seen c.apply_into-reply.new.self) c.args.queue.now c.args.store.now
     c.apply_into-reply.ensures.applied.stands c.apply_into-reply.ensures.applied.answer
 
 pub returns-in-Queue-clause-made : goal.returns-in-Queue-clause-made
 returns-in-Queue-clause-made g c = λ step is.
     let blocks = c.requires.up.blocks in
     let old = c.args.queue.now in
-    made_queue c.args.config.now step c.in-Queue.op _ _ (is ∙ c.in-Queue.is) (subst (IsPossible c.args.config.now) c.in-Queue.is c.requires.possible).0 (state_of c.args.unit.now) old c.apply-reply.new.self c.args.store.now
-    (λ jobs stands. subst (λ n. Stands n (c.in-Queue.op ∷ jobs) c.apply-reply.new.self) blocks (c.apply-reply.ensures.stands jobs (subst (λ n. Stands n jobs old) (sym blocks) stands)))
-    (λ jobs stands. c.apply-reply.ensures.answer jobs (subst (λ n. Stands n jobs old) (sym blocks) stands))
+    made_queue c.args.config.now step c.in-Queue.op _ _ (is ∙ c.in-Queue.is) (subst (IsPossible c.args.config.now) c.in-Queue.is c.requires.possible).0 (unit_seen c.args.unit.now) old c.apply-reply.new.self c.args.store.now
+    (λ jobs stands. subst (λ n. QueueStands n (c.in-Queue.op ∷ jobs) c.apply-reply.new.self) blocks (c.apply-reply.ensures.stands jobs (subst (λ n. QueueStands n jobs old) (sym blocks) stands)))
+    (λ jobs stands. c.apply-reply.ensures.answer jobs (subst (λ n. QueueStands n jobs old) (sym blocks) stands))
 
 pub returns-in-Save-clause-made : goal.returns-in-Save-clause-made
 returns-in-Save-clause-made g c = λ step is.
     let response = c.save.new.buffers.response.items in
-    made_save c.args.config.now step (told_with response c.save.result) (is ∙ c.in-Save.is) (state_of c.args.unit.now) (state_of c.save.new.unit) c.args.queue.now c.args.store.now c.save.new.store (c.save.ensures.saves response)
+    made_save c.args.config.now step (told_with response c.save.result) (is ∙ c.in-Save.is) (unit_seen c.args.unit.now) (unit_seen c.save.new.unit) c.args.queue.now c.args.store.now c.save.new.store (c.save.ensures.saves response)
 
 pub returns-in-Get-clause-made : goal.returns-in-Get-clause-made
 returns-in-Get-clause-made g c = λ step is.
@@ -32,11 +32,11 @@ returns-in-Get-clause-made g c = λ step is.
     let most = c.requires.up.under_way.valid.blocks in
     let here : c.in-Get.block < c.args.config.now.blocks = subst (IsPossible c.args.config.now) c.in-Get.is c.requires.possible in
     let below : c.in-Get.block < applications = omega (arith, here, most) in
-    made_get c.args.config.now step (told_with response c.get.result) c.in-Get.block (is ∙ c.in-Get.is) below (state_of c.args.unit.now) c.args.queue.now c.args.store.now c.get.new.store (c.get.ensures.reads response)
+    made_get c.args.config.now step (told_with response c.get.result) c.in-Get.block (is ∙ c.in-Get.is) below (unit_seen c.args.unit.now) c.args.queue.now c.args.store.now c.get.new.store (c.get.ensures.reads response)
 
 pub returns-in-Drain-clause-made : goal.returns-in-Drain-clause-made
 returns-in-Drain-clause-made g c = λ step is.
-    made_drain c.args.config.now step c.drain-written.result.0 c.drain-written.result.1 (is ∙ c.in-Drain.is) (state_of c.args.unit.now) c.args.queue.now c.drain-written.new.queue c.args.store.now c.drain-written.new.store
+    made_drain c.args.config.now step c.drain-written.result.0 c.drain-written.result.1 (is ∙ c.in-Drain.is) (unit_seen c.args.unit.now) c.args.queue.now c.drain-written.new.queue c.args.store.now c.drain-written.new.store
     c.drain-written.ensures.running c.drain-written.ensures.calls c.drain-written.ensures.drained
 
 pub returns-in-Drain-clause-up : goal.returns-in-Drain-clause-up

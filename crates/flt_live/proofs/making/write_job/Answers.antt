@@ -8,7 +8,7 @@ use Rattle.flt_store.specs.Store.{driver_of}
 use Rattle.flt_life_model.specs.Draining.{WritesJob}
 use Rattle.flt_life_model.proofs.Causing.{rose_by}
 use Rattle.flt_queue.specs.declared.job.QueueOp.TheVariants as ops
-use Rattle.flt_queue.specs.Stands.{Stands}
+use Rattle.flt_queue.specs.Stands.{QueueStands}
 use Rattle.flt_live.proofs.making.write_job.Goals as goal
 
 pub put_block-requires-clause-alive : goal.put_block-requires-clause-alive
@@ -42,5 +42,5 @@ returns-clause-wrote g c =
 
 pub returns-clause-noted : goal.returns-clause-noted
 returns-clause-noted g c = λ jobs stands.
-    subst (λ blocks. Stands blocks (ops.Done c.args.job.now.block c.is_ok-written.result ∷ jobs) c.apply.new.self) c.requires.blocks
-    (c.apply.ensures.stands jobs (subst (λ blocks. Stands blocks jobs c.args.queue.now) (sym c.requires.blocks) stands))
+    subst (λ blocks. QueueStands blocks (ops.Done c.args.job.now.block c.is_ok-written.result ∷ jobs) c.apply.new.self) c.requires.blocks
+    (c.apply.ensures.stands jobs (subst (λ blocks. QueueStands blocks jobs c.args.queue.now) (sym c.requires.blocks) stands))

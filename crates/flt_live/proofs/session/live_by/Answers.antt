@@ -4,21 +4,21 @@ use Rattle.flt_step.specs.declared.step.Part.{Part}
 use Rattle.flt_life_model.specs.Lives.{lists}
 use Rattle.flt_script.specs.Script.{content}
 use Rattle.flt_live.specs.Heard.{talk}
-use Rattle.flt_live.specs.Session.{HasFailed, IsIdle, Ended, Unread}
+use Rattle.flt_live.specs.Session.{HasFailed, AreIdleLives, Ended, Unread}
 use Rattle.flt_live.proofs.Closings.{cut_for_memory, shelf_ends}
 use Rattle.flt_live.proofs.session.live_by.Goals as goal
 
 pub returns-in-Ok-live_on : goal.returns-in-Ok-live_on
 returns-in-Ok-live_on g c =
     let yes : IsTrue c.is_idle.result = search rules in
-    let idle = subst (λ (l : List (Vec Part Global)). IsIdle (lists l)) c.deref.ensures.value (c.is_idle.ensures.0 yes) in
+    let idle = subst (λ (l : List (Vec Part Global)). AreIdleLives (lists l)) c.deref.ensures.value (c.is_idle.ensures.0 yes) in
     let lived = c.in-Ok-live_on.ensures.lived in
     inl (record { end = Ended lived.0; cause = (idle, lived.2); status_is = lived.1 })
 
 pub returns-in-Err-Unread : goal.returns-in-Err-Unread
 returns-in-Err-Unread g c =
     let yes : IsTrue c.is_idle.result = search rules in
-    let idle = subst (λ (l : List (Vec Part Global)). IsIdle (lists l)) c.deref.ensures.value (c.is_idle.ensures.0 yes) in
+    let idle = subst (λ (l : List (Vec Part Global)). AreIdleLives (lists l)) c.deref.ensures.value (c.is_idle.ensures.0 yes) in
     let before = talk (g.S.Source.left c.args.source.now) (g.S.Source.faults c.args.source.now) (g.K.Sink.held c.args.sink.now) (g.K.Sink.faults c.args.sink.now) in
     let after = talk (g.S.Source.left c.live_on.new.source) (g.S.Source.faults c.live_on.new.source) (g.K.Sink.held c.live_on.new.sink) (g.K.Sink.faults c.live_on.new.sink) in
     let failed = subst (HasFailed g.H.Shelf.tells c.args.script.now.config before after) c.in-Err-Unread.field-0-is c.in-Err-Unread.ensures.failed in
@@ -27,7 +27,7 @@ returns-in-Err-Unread g c =
 pub returns-in-Err-Shelf : goal.returns-in-Err-Shelf
 returns-in-Err-Shelf g c =
     let yes : IsTrue c.is_idle.result = search rules in
-    let idle = subst (λ (l : List (Vec Part Global)). IsIdle (lists l)) c.deref.ensures.value (c.is_idle.ensures.0 yes) in
+    let idle = subst (λ (l : List (Vec Part Global)). AreIdleLives (lists l)) c.deref.ensures.value (c.is_idle.ensures.0 yes) in
     let before = talk (g.S.Source.left c.args.source.now) (g.S.Source.faults c.args.source.now) (g.K.Sink.held c.args.sink.now) (g.K.Sink.faults c.args.sink.now) in
     let between = talk (g.S.Source.left c.live_on.new.source) (g.S.Source.faults c.live_on.new.source) (g.K.Sink.held c.live_on.new.sink) (g.K.Sink.faults c.live_on.new.sink) in
     let after = talk (g.S.Source.left c.live_on.new.source) (g.S.Source.faults c.live_on.new.source) (g.K.Sink.held c.tell_shelf.new.sink) (g.K.Sink.faults c.tell_shelf.new.sink) in

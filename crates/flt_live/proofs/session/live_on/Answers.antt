@@ -1,8 +1,8 @@
 use Rattle.std.proofs.Common.{◌≡◌, ◌∙◌, ◌∷◌, [], Some, inl, inr, refl, sym, ap, subst, arith}
 use Rattle.std.specs.Prelude.{IfOk, IsTrue}
 use Rattle.flt_flash.specs.Blocks.{DeviceState}
-use Rattle.flt_io.specs.Status.{number_of}
-use Rattle.flt_dcm.specs.Whole.{state_of}
+use Rattle.flt_io.specs.Status.{status_number}
+use Rattle.flt_dcm.specs.Whole.{unit_seen}
 use Rattle.flt_store.specs.Cause.{HasRoom}
 use Rattle.flt_store.specs.Store.{driver_of}
 use Rattle.flt_lives.specs.Media.{sectors}
@@ -30,12 +30,12 @@ loop-init g c =
 
 pub device_of_life-requires-clause-numbers : goal.device_of_life-requires-clause-numbers
 device_of_life-requires-clause-numbers g c =
-    (serves_on c.args.config.now c.saturating_add-number.result (number_of c.live-lived.result.status) (driver_of c.in-Ok-store_over.store) c.live-lived.new.store (state_of c.live-lived.new.unit) _ _ c.live-lived.result.end c.live-lived.ensures.lived c.in-Power.is).numbers
+    (serves_on c.args.config.now c.saturating_add-number.result (status_number c.live-lived.result.status) (driver_of c.in-Ok-store_over.store) c.live-lived.new.store (unit_seen c.live-lived.new.unit) _ _ c.live-lived.result.end c.live-lived.ensures.lived c.in-Power.is).numbers
     ∙ c.in-Ok-store_over.ensures.numbers
 
 pub device_of_life-requires-clause-room : goal.device_of_life-requires-clause-room
 device_of_life-requires-clause-room g c =
-    let on = serves_on c.args.config.now c.saturating_add-number.result (number_of c.live-lived.result.status) (driver_of c.in-Ok-store_over.store) c.live-lived.new.store (state_of c.live-lived.new.unit) _ _ c.live-lived.result.end c.live-lived.ensures.lived c.in-Power.is in
+    let on = serves_on c.args.config.now c.saturating_add-number.result (status_number c.live-lived.result.status) (driver_of c.in-Ok-store_over.store) c.live-lived.new.store (unit_seen c.live-lived.new.unit) _ _ c.live-lived.result.end c.live-lived.ensures.lived c.in-Power.is in
     subst (HasRoom c.args.config.now) (sym on.room) c.in-Ok-store_over.ensures.room
 
 pub loop-preserved : goal.loop-preserved
@@ -54,8 +54,8 @@ loop-preserved g c =
     let number = c.saturating_add-number.result in
     let before = driver_of c.in-Ok-store_over.store in
     let last = c.live-lived.new.store in
-    let unit = state_of c.live-lived.new.unit in
-    let status = number_of c.live-lived.result.status in
+    let unit = unit_seen c.live-lived.new.unit in
+    let status = status_number c.live-lived.result.status in
     let end = c.live-lived.result.end in
     let life = span_of config number status before last unit from after end lived in
     let span = is_span config number status before last unit from after end lived in
@@ -88,8 +88,8 @@ returns-in-Ended-clause-lived g c =
     let number = c.saturating_add-number.result in
     let before = driver_of c.in-Ok-store_over.store in
     let last = c.live-lived.new.store in
-    let unit = state_of c.live-lived.new.unit in
-    let status = number_of c.live-lived.result.status in
+    let unit = unit_seen c.live-lived.new.unit in
+    let status = status_number c.live-lived.result.status in
     let end = c.live-lived.result.end in
     let life = span_of config number status before last unit from after end lived in
     let span = is_span config number status before last unit from after end lived in
@@ -111,8 +111,8 @@ returns-in-Unread-clause-failed g c =
     let number = c.saturating_add-number.result in
     let before = driver_of c.in-Ok-store_over.store in
     let last = c.live-lived.new.store in
-    let unit = state_of c.live-lived.new.unit in
-    let status = number_of c.live-lived.result.status in
+    let unit = unit_seen c.live-lived.new.unit in
+    let status = status_number c.live-lived.result.status in
     let end = c.live-lived.result.end in
     let life = span_of config number status before last unit from after end lived in
     let span = is_span config number status before last unit from after end lived in
@@ -134,8 +134,8 @@ returns-in-Unwritten-clause-failed g c =
     let number = c.saturating_add-number.result in
     let before = driver_of c.in-Ok-store_over.store in
     let last = c.live-lived.new.store in
-    let unit = state_of c.live-lived.new.unit in
-    let status = number_of c.live-lived.result.status in
+    let unit = unit_seen c.live-lived.new.unit in
+    let status = status_number c.live-lived.result.status in
     let end = c.live-lived.result.end in
     let life = span_of config number status before last unit from after end lived in
     let span = is_span config number status before last unit from after end lived in
@@ -160,8 +160,8 @@ returns-in-Memory-clause-failed g c =
     let number = c.saturating_add-number.result in
     let before = driver_of c.in-Ok-store_over.store in
     let last = c.live-lived.new.store in
-    let unit = state_of c.live-lived.new.unit in
-    let status = number_of c.live-lived.result.status in
+    let unit = unit_seen c.live-lived.new.unit in
+    let status = status_number c.live-lived.result.status in
     let end = c.live-lived.result.end in
     let life = span_of config number status before last unit from after end lived in
     let span = is_span config number status before last unit from after end lived in

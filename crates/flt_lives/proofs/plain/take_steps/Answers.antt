@@ -12,7 +12,7 @@ use Rattle.flt_life_model.specs.Played.{IsLife}
 use Rattle.flt_life_model.specs.Journal.{Journal}
 use Rattle.flt_life_model.specs.Room.{told_in}
 use Rattle.flt_life_model.proofs.Sizes.{own_count}
-use Rattle.flt_dcm.specs.Whole.{state_of}
+use Rattle.flt_dcm.specs.Whole.{unit_seen}
 use Rattle.flt_lives.specs.Alone.{IsAlone, actions_in}
 use Rattle.flt_life_model.specs.Chain.{start_from}
 use Rattle.flt_store.specs.Store.{driver_of}
@@ -79,7 +79,7 @@ loop-part-preserved g c =
       many = omega (arith, answered, inv_many, count);
       taken = record {
         living = λ first living.
-            subst (λ (now : List Told). IsLiving config first (reverse c.take_step.new.account.journal.items) now (state_of c.take_step.new.unit) c.take_step.new.store) (sym deeds)
+            subst (λ (now : List Told). IsLiving config first (reverse c.take_step.new.account.journal.items) now (unit_seen c.take_step.new.unit) c.take_step.new.store) (sym deeds)
             (takes.step.living first (deeds_told before told) (inv.taken.living first living));
         played = λ first living.
             (let start = start_from config first.state in
@@ -121,7 +121,7 @@ loop-part-init g c =
       many = ap length no_answers;
       taken = record {
         living = λ first living.
-            subst (λ (journal : Journal). IsLiving c.args.config.now first journal [] (state_of c.args.unit.now) c.args.store.now) (sym (ap reverse no_calls)) living;
+            subst (λ (journal : Journal). IsLiving c.args.config.now first journal [] (unit_seen c.args.unit.now) c.args.store.now) (sym (ap reverse no_calls)) living;
         played = λ first living.
             subst (λ (told : List Told). IsLife (start_from c.args.config.now first.state) [] told [] c.args.account.now.journal.items []) (sym no_answers)
             (subst (λ (journal : Journal). IsLife (start_from c.args.config.now first.state) [] [] [] journal []) (sym no_calls) (no_parts (start_from c.args.config.now first.state)));

@@ -12,7 +12,7 @@ use Rattle.flt_life_model.specs.declared.action.Action.{Action}
 use Rattle.flt_life_model.specs.declared.action.Action.TheVariants as actions
 use Rattle.flt_life_model.specs.declared.answer.StepAnswer.TheVariants as answers
 use Rattle.flt_store.specs.Store.{driver_of}
-use Rattle.flt_dcm.specs.Whole.{state_of}
+use Rattle.flt_dcm.specs.Whole.{unit_seen}
 use Rattle.flt_life_model.specs.Actions.{IsPossible, arm_count, arms_of, call_count, response_size}
 use Rattle.flt_life_model.specs.Chain.{start_from}
 use Rattle.flt_life_model.specs.Journal.{Journal, entry}
@@ -30,7 +30,7 @@ returns-in-Call-clause-ready g c =
     let ready = c.requires.ready in
     record {
       same = c.call-reply.ensures.config ∙ ready.same;
-      under_way = subst (λ (k : Config). IsUnderWay k (state_of c.call-reply.new.unit)) ready.same c.call-reply.ensures.under_way;
+      under_way = subst (λ (k : Config). IsUnderWay k (unit_seen c.call-reply.new.unit)) ready.same c.call-reply.ensures.under_way;
       alive = ready.alive;
     }
 
@@ -49,14 +49,14 @@ returns-in-Call-clause-made g c =
           let told : last ≡ answer_at start journal c.in-Call.op = λ i. record { place = size i; reply = reply i } in
           (c.write.ensures.written, ap answers.Dem told));
       living = λ first told living.
-          (let after : IsLiving config first (entry 0 c.in-Call.op ∷ journal) told (state_of c.call-reply.new.unit) c.args.store.now = record {
+          (let after : IsLiving config first (entry 0 c.in-Call.op ∷ journal) told (unit_seen c.call-reply.new.unit) c.args.store.now = record {
             stands = c.call-reply.ensures.stands _ _ living.stands;
             held = living.held;
             spare = living.spare;
             running = living.running;
             kept = kept_entry config first journal told living.held living.spare living.kept 0 c.in-Call.op possible.0;
           } in
-          subst (λ (journal : Journal). IsLiving config first journal told (state_of c.call-reply.new.unit) c.args.store.now) (sym c.write.ensures.written) after);
+          subst (λ (journal : Journal). IsLiving config first journal told (unit_seen c.call-reply.new.unit) c.args.store.now) (sym c.write.ensures.written) after);
       caused = λ begun told caused. caused;
     } in
     subst (λ (step : Action). AnswersStep config step c.args.unit.now c.call-reply.new.unit c.args.store.now c.args.store.now c.args.journal.now c.write.new.journal (answers.Dem last)) (sym c.in-Call.is) made

@@ -3,7 +3,7 @@ use Rattle.flt_config.specs.declared.config.Config.{Config}
 use Rattle.flt_flash.specs.Blocks.{BlocksState}
 use Rattle.flt_flash.specs.Calls.{Follows}
 use Rattle.flt_model.specs.declared.call.Op.TheVariants as ops
-use Rattle.flt_dcm.specs.Whole.{state_of}
+use Rattle.flt_dcm.specs.Whole.{unit_seen}
 use Rattle.flt_life_model.specs.declared.answer.StepAnswer.TheVariants as answers
 use Rattle.flt_life_model.specs.Journal.{Journal, entry, calls_of}
 use Rattle.flt_life_model.specs.Chain.{start_from}
@@ -22,7 +22,7 @@ returns-in-Ok-clause-ready g c =
     let same = c.take_snapshot.ensures.config ∙ ready.same in
     record {
       same = c.call.ensures.config ∙ same;
-      under_way = subst (λ (k : Config). IsUnderWay k (state_of c.call.new.unit)) same c.call.ensures.under_way;
+      under_way = subst (λ (k : Config). IsUnderWay k (unit_seen c.call.new.unit)) same c.call.ensures.under_way;
       alive = c.save.ensures.alive;
     }
 
@@ -31,7 +31,7 @@ returns-in-Err-clause-ready g c =
     let ready = c.requires.ready in
     record {
       same = c.take_snapshot.ensures.config ∙ ready.same;
-      under_way = subst (λ (k : Config). IsUnderWay k (state_of c.take_snapshot.new.unit)) ready.same c.take_snapshot.ensures.under_way;
+      under_way = subst (λ (k : Config). IsUnderWay k (unit_seen c.take_snapshot.new.unit)) ready.same c.take_snapshot.ensures.under_way;
       alive = c.save.ensures.alive;
     }
 
@@ -46,14 +46,14 @@ returns-in-Ok-clause-made g c =
       living = λ first told living.
           (let saved = (c.in-Ok.ensures.answers living.held living.spare living.running).saved in
           let taken = c.take_snapshot.ensures.taken (start_from config first.state) (calls_of journal) living.stands in
-          let after : IsLiving config first (entry 0 (ops.Saved c.in-Ok.generation) ∷ entry 0 ops.Snapshot ∷ journal) (answers.Saved c.in-Ok.generation ∷ told) (state_of c.call.new.unit) c.save.new.self = record {
+          let after : IsLiving config first (entry 0 (ops.Saved c.in-Ok.generation) ∷ entry 0 ops.Snapshot ∷ journal) (answers.Saved c.in-Ok.generation ∷ told) (unit_seen c.call.new.unit) c.save.new.self = record {
             stands = c.call.ensures.stands _ _ (c.take_snapshot.ensures.stands (start_from config first.state) (calls_of journal) living.stands);
             held = _;
             spare = _;
             running = saved.running;
             kept = rw taken (kept_saved config first journal told living.held living.spare living.kept saved.chosen saved.is 0 c.in-Ok.generation (entry 0 ops.Snapshot ∷ journal) saved.next refl);
           } in
-          subst (λ (journal : Journal). IsLiving config first journal (answers.Saved c.in-Ok.generation ∷ told) (state_of c.call.new.unit) c.save.new.self) (sym written) after);
+          subst (λ (journal : Journal). IsLiving config first journal (answers.Saved c.in-Ok.generation ∷ told) (unit_seen c.call.new.unit) c.save.new.self) (sym written) after);
       caused = λ begun told caused.
           caused_saved config begun told c.args.store.now c.save.new.self caused c.take_snapshot.new.buffers.state c.in-Ok.generation c.save.ensures.driver.calls
           (c.in-Ok.ensures.answers caused.held_now caused.spare_now caused.running).saved;
@@ -70,14 +70,14 @@ returns-in-Err-clause-made g c =
           let taken = c.take_snapshot.ensures.taken (start_from config first.state) (calls_of journal) living.stands in
           let held_is = rw taken at left.held_is in
           let spare_is = rw taken at left.spare_is in
-          let after : IsLiving config first (entry 0 ops.Snapshot ∷ journal) (answers.SaveFailed c.in-Err.fault ∷ told) (state_of c.take_snapshot.new.unit) c.save.new.self = record {
+          let after : IsLiving config first (entry 0 ops.Snapshot ∷ journal) (answers.SaveFailed c.in-Err.fault ∷ told) (unit_seen c.take_snapshot.new.unit) c.save.new.self = record {
             stands = c.take_snapshot.ensures.stands (start_from config first.state) (calls_of journal) living.stands;
             held = left.now_held;
             spare = left.now_spare;
             running = left.running;
             kept = kept_failed config first journal told living.held living.spare living.kept left.chosen left.is 0 c.in-Err.fault left.now_held left.now_spare held_is spare_is;
           } in
-          subst (λ (journal : Journal). IsLiving config first journal (answers.SaveFailed c.in-Err.fault ∷ told) (state_of c.take_snapshot.new.unit) c.save.new.self) (sym c.write.ensures.written) after);
+          subst (λ (journal : Journal). IsLiving config first journal (answers.SaveFailed c.in-Err.fault ∷ told) (unit_seen c.take_snapshot.new.unit) c.save.new.self) (sym c.write.ensures.written) after);
       caused = λ begun told caused.
           caused_failed config begun told c.args.store.now c.save.new.self caused c.take_snapshot.new.buffers.state c.in-Err.fault c.save.ensures.driver.calls
           (c.in-Err.ensures.answers caused.held_now caused.spare_now caused.running).failed

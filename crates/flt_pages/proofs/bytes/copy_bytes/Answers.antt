@@ -2,7 +2,7 @@ use Rattle.std.proofs.Common.{◌≡◌, ◌+◌, ◌<◌, ℕ, List, [], get_or
 use Rattle.flt_flash.specs.Image.{sector_at}
 use Rattle.flt_flash.specs.Blocks.{byte_pages}
 use Rattle.flt_flash.proofs.Following.{one_read}
-use Rattle.flt_pages.specs.RecordPlace.{record_at, bytes_at}
+use Rattle.flt_pages.specs.RecordPlace.{record_at, record_bytes_at}
 use Rattle.flt_pages.proofs.Filling.{filled_all}
 use Rattle.flt_pages.proofs.PageBytes.{bytes_size}
 use Rattle.flt_pages.proofs.Copying.{copy_unread, copy_torn, copied}
@@ -39,7 +39,7 @@ returns-clause-fills g c =
     let before = g.F.Flash.state c.args.flash.now in
     let shape = g.met.F.Flash.shape c.args.flash.now in
     let now = g.F.Flash.state c.loop-index.flash in
-    let bytes = bytes_at (sector_at before.image c.args.sector) c.args.place in
+    let bytes = record_bytes_at (sector_at before.image c.args.sector) c.args.place in
     let size = bytes_size (sector_at before.image c.args.sector) (shape.bytes c.args.sector c.requires.sector) (record_at 0 c.args.place) (omega (arith, c.requires.within.below, shape.pages c.args.sector c.requires.sector)) in
     let last : c.loop-index.index ≡ byte_pages (length bytes) = omega (arith, c.byte_pages-index-end.ensures, size) in
     let kept = c.loop-index.invariant.apart in

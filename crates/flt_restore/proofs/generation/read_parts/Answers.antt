@@ -3,7 +3,7 @@ use Rattle.flt_config.specs.declared.persist.Persist.{Persist}
 use Rattle.flt_nvm.specs.Driver.{driver_of}
 use Rattle.flt_store_model.specs.Layout.{parts}
 use Rattle.flt_store_model.specs.Holding.{Fault, parts_read}
-use Rattle.flt_restore.specs.Judging.{Tells}
+use Rattle.flt_restore.specs.Judging.{HasFaultCause}
 use Rattle.flt_restore.proofs.Telling.{handed_on, no_reads, more_reads}
 use Rattle.flt_restore.proofs.Failing.{part_unread_from, was_flash}
 use Rattle.flt_restore.proofs.TakingParts.{part_taken, part_refused}
@@ -26,7 +26,7 @@ loop-id-init g c = record {
 
 pub returns-in_err-read_part-clause-refused : goal.returns-in_err-read_part-clause-refused
 returns-in_err-read_part-clause-refused g c =
-    handed_on (Tells c.args.config.now (driver_of c.args.nvm.now) (driver_of c.read_part.new.nvm) (parts_read c.args.config.now (driver_of c.args.nvm.now).value c.args.commit.now parts))
+    handed_on (HasFaultCause c.args.config.now (driver_of c.args.nvm.now) (driver_of c.read_part.new.nvm) (parts_read c.args.config.now (driver_of c.args.nvm.now).value c.args.commit.now parts))
     c.from_residual.result c.in_err-read_part.field-0.0 c.from_residual.ensures.1
     (part_refused c.args.config.now (driver_of c.args.nvm.now) (driver_of c.loop-id.nvm) c.loop-id.invariant.reads c.args.commit.now c.loop-id.id (omega (arith, c.loop-id.auto.id)) (omega (arith, c.loop-id-test.true))
     c.loop-id.out c.loop-id.invariant.told (driver_of c.read_part.new.nvm) c.in_err-read_part.field-0.0 c.in_err-read_part.ensures.refused)

@@ -3,7 +3,7 @@ use Rattle.std.specs.Prelude.{IsFalse}
 use Rattle.flt_flash.specs.declared.blocks.Blocks.{Ghosts}
 use Rattle.flt_nvm.specs.declared.nvm.Nvm.{Nvm}
 use Rattle.flt_nvm.specs.Driver.{driver_of, table_of}
-use Rattle.flt_restore.specs.Found.{Reads, content_of}
+use Rattle.flt_restore.specs.Found.{Reads, held_content}
 use Rattle.flt_restore.specs.Needs.{ReadsImage}
 use Rattle.flt_restore.specs.Restored.{Refuses}
 use Rattle.flt_restore.proofs.Rows.{mark_is_single}
@@ -23,7 +23,7 @@ returns-clause-restored g c =
     let marked = driver_of c.read_content.new.nvm in
     let before = driver_of c.read_commit.new.nvm in
     let after = driver_of c.read_image.new.nvm in
-    let content = content_of c.in_ok-source.source.held in
+    let content = held_content c.in_ok-source.source.held in
     let so_far = more_reads start marked before c.in_ok-mark.ensures.reads c.in_ok-source.ensures.reads in
     let source = source_from start marked before content c.in_ok-source.source.copy c.in_ok-mark.ensures.reads.calls c.in_ok-mark.ensures.reads.values c.in_ok-source.ensures.source in
     restores config start before after (same_values start before so_far) content c.in_ok-source.source.copy source c.read_image.ensures.reads.calls.counts c.in_ok-commit.commit c.read_image.new.out
@@ -36,7 +36,7 @@ returns-in_err-commit-clause-refused g c =
     let marked = driver_of c.read_content.new.nvm in
     let before = driver_of c.read_commit.new.nvm in
     let after = driver_of c.read_image.new.nvm in
-    let content = content_of c.in_ok-source.source.held in
+    let content = held_content c.in_ok-source.source.held in
     let so_far = more_reads start marked before c.in_ok-mark.ensures.reads c.in_ok-source.ensures.reads in
     let source = source_from start marked before content c.in_ok-source.source.copy c.in_ok-mark.ensures.reads.calls c.in_ok-mark.ensures.reads.values c.in_ok-source.ensures.source in
     each_fault (Refuses config start after) c.from_residual-in_err-commit.result
@@ -51,7 +51,7 @@ pub returns-in_err-commit-clause-unread : goal.returns-in_err-commit-clause-unre
 returns-in_err-commit-clause-unread g c =
     λ flash.
     let before = driver_of c.read_commit.new.nvm in
-    let content = content_of c.in_ok-source.source.held in
+    let content = held_content c.in_ok-source.source.held in
     inr (inr (record {
       middle = before;
       earlier = (more_reads (driver_of c.args.nvm.now) (driver_of c.read_content.new.nvm) before c.in_ok-mark.ensures.reads c.in_ok-source.ensures.reads).calls;

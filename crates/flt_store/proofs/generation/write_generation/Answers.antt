@@ -13,7 +13,7 @@ use Rattle.std.proofs.Math.Nat.{add-mul}
 use Rattle.flt_flash.specs.Blocks.{record_pages}
 use Rattle.flt_store_model.specs.Layout.{used_ids}
 use Rattle.flt_store_model.specs.Form.{block_bytes, commit_length_2}
-use Rattle.flt_store.specs.Cause.{Writes}
+use Rattle.flt_store.specs.Cause.{StoreWrites}
 use Rattle.flt_store.specs.Cost.{Spends, pages_to_write}
 use Rattle.flt_store.proofs.Changed.{written_pages}
 use Rattle.flt_store.proofs.Costs.{spends_more, spends_less, jobs_spend, limit_of_used}
@@ -96,7 +96,7 @@ returns-clause-forms g c =
       rewritten = (taken c.write.result c.in_ok-write.was gives.first ∙ ap bytes c.put_commit.ensures, taken c.write.result c.in_ok-write.was gives.second ∙ ap bytes c.put_commit.ensures);
     }
 
-writes : (g : _) (c : After-write g) → Writes (driver_of c.args.nvm.now) (driver_of c.write.new.self) c.write.result
+writes : (g : _) (c : After-write g) → StoreWrites (driver_of c.args.nvm.now) (driver_of c.write.new.self) c.write.result
 writes g c =
     let put = tries g c in
     let size = size_tried put in

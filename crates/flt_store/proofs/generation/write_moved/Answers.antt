@@ -2,7 +2,7 @@ use Rattle.std.proofs.Common.{◌∙◌, ℕ, List, length, sym, ap, arith}
 use Rattle.flt_flash.specs.Content.{bytes}
 use Rattle.flt_flash.specs.Blocks.{record_pages}
 use Rattle.flt_nvm.specs.Driver.{driver_of}
-use Rattle.flt_store_model.specs.Layout.{number_of, part_of}
+use Rattle.flt_store_model.specs.Layout.{number_of, part_of_block}
 use Rattle.flt_store_model.proofs.Pages.{own_part}
 use Rattle.flt_store_model.specs.Successor.{is_written}
 use Rattle.flt_store_model.proofs.Choices.{chosen}
@@ -25,7 +25,7 @@ pub write-requires-clause-least : goal.write-requires-clause-least
 write-requires-clause-least g c =
     let used = used_of c.args.config.now c.args.current.now c.args.next.now c.args.id (sym c.is_written.ensures ∙ c.if-is_written.true) in
     let size = ap (λ (raw : List ℕ). length raw) c.get.ensures ∙ c.requires.writable.sizes c.args.id used in
-    let some = some_length (part_of c.args.id) in
+    let some = some_length (part_of_block c.args.id) in
     omega (arith, some, size)
 
 pub write-requires-clause-fits : goal.write-requires-clause-fits
@@ -58,7 +58,7 @@ returns-then-is_written-clause-own g c =
     let own = own_part c.args.config.now c.args.id index used (omega (arith, moves, c.index_of.ensures)) in
     let size = ap (λ (raw : List ℕ). length raw) c.get.ensures ∙ c.requires.writable.sizes c.args.id used in
     let pages = ap record_pages size in
-    let short = part_short (part_of c.args.id) in
+    let short = part_short (part_of_block c.args.id) in
     let gives = part_alone _ c.requires.table c.args.id c.requires.first c.requires.end _ _ c.write.ensures.gives in
     record {
       within = given_within c.args.config.now before after (number_of c.args.id index) _ _ c.write.result gives (omega (arith, own, pages));
@@ -75,7 +75,7 @@ pub returns-then-is_written-clause-spends : goal.returns-then-is_written-clause-
 returns-then-is_written-clause-spends g c = λ most.
     let written = sym c.is_written.ensures ∙ c.if-is_written.true in
     let used = used_of c.args.config.now c.args.current.now c.args.next.now c.args.id written in
-    let short = part_short (part_of c.args.id) in
+    let short = part_short (part_of_block c.args.id) in
     let size = ap (λ (raw : List ℕ). length raw) c.get.ensures in
     let sized = c.requires.writable.sizes c.args.id used in
     let pages = chosen (is_written c.args.config.now c.args.current.now c.args.next.now c.args.id) (record_pages (length (bytes_at c.args.blocks.now c.args.id))) 0 written in

@@ -4,8 +4,8 @@ use Rattle.std.proofs.lemmas.List.{length-map}
 use Rattle.flt_life_model.specs.declared.room.LaneRoom.{LaneRoom}
 use Rattle.flt_life_model.specs.Room.{IsLaneRoom, steps_of, told_in}
 use Rattle.flt_fork.proofs.Blocks.{all_left, all_right}
-use Rattle.flt_watch.specs.Block.{Gains}
-use Rattle.flt_watch.specs.Lane.{IsSeatOf}
+use Rattle.flt_watch.specs.Block.{WatchGains}
+use Rattle.flt_watch.specs.Lane.{IsWatchSeatOf}
 use Rattle.flt_watch.proofs.PartsSoFar.{calls_for, can_behind, gains_block, lanes_behind, part_for}
 use Rattle.flt_watch.proofs.WorkRuns.{ran_lanes}
 use Rattle.flt_watch.proofs.block.run_block.Given as given
@@ -50,7 +50,7 @@ told_len g c =
     let same = long c.args.rooms.items in
     omega (arith, c.join_lanes.ensures.len, c.run_works.ensures.ran.len, c.seat_lanes.ensures.count, same)
 
-gains : (g : given.Over) (c : goal.After-join_lanes g) → Gains c.args.main.now c.join_lanes.new.main (inr (steps_of c.args.rooms.items)) (told_in c.args.answers.now.own) (told_in c.args.answers.now.own)
+gains : (g : given.Over) (c : goal.After-join_lanes g) → WatchGains c.args.main.now c.join_lanes.new.main (inr (steps_of c.args.rooms.items)) (told_in c.args.answers.now.own) (told_in c.args.answers.now.own)
     (map told_in c.args.answers.now.told.items) (map told_in c.join_lanes.new.told.items)
 gains g c =
     let told = map told_in c.args.answers.now.told.items in
@@ -70,7 +70,7 @@ returns-clause-can g c = λ later rest can.
     let rooms = c.args.rooms.items in
     let off = c.seat_lanes.ensures.seated.dem_off in
     let joined = c.join_lanes.ensures.joined.dem in
-    let seat : IsSeatOf c.args.lock.now c.join_lanes.new.main = (joined.lock_is ∙ off.lock_is ∙ can.seat.0, ap (λ s. s.config) (joined.start_is ∙ off.start_is) ∙ can.seat.1) in
+    let seat : IsWatchSeatOf c.args.lock.now c.join_lanes.new.main = (joined.lock_is ∙ off.lock_is ∙ can.seat.0, ap (λ s. s.config) (joined.start_is ∙ off.start_is) ∙ can.seat.1) in
     can_behind c.args.lock.now c.args.main.now (rooms ++ later) c.args.answers.now (inr (steps_of rooms)) rest can
     c.join_lanes.new.main later (record { own = c.args.answers.now.own; told = c.join_lanes.new.told; response = c.args.answers.now.response })
     (gains g c) seat (omega (arith, joined.left_is, off.left_is)) (omega arith) can.room.own (told_len g c) c.join_lanes.ensures.capacity

@@ -16,7 +16,7 @@ use Rattle.flt_shared.specs.Call.{Seat, reply_after}
 use Rattle.flt_fork.proofs.Closing.{closed, fresh_of}
 use Rattle.flt_lane.proofs.WholeLife.{made_of}
 use Rattle.flt_notify.specs.Table.{HasValuesOf}
-use Rattle.flt_watch.specs.Block.{IsPartFor}
+use Rattle.flt_watch.specs.Block.{IsWatchPartFor}
 use Rattle.flt_watch.specs.Watched.{IsWatched}
 use Rattle.flt_watch.proofs.life.live.Goals as goal
 
@@ -33,7 +33,7 @@ run_parts-requires-clause-can g c κs within =
     record {
       seat = c.in_ok-lock.ensures.lock;
       main_is = search rules;
-      steps = subst (λ (config : Config). All (IsPartFor config) (parts_of parts)) (sym same) c.requires.steps;
+      steps = subst (λ (config : Config). All (IsWatchPartFor config) (parts_of parts)) (sym same) c.requires.steps;
       calls = omega (arith, calls, c.for_parts-calls.ensures.machine);
       numbers = omega (arith, children, c.requires.numbers);
       lanes_are = room.lanes_are;

@@ -9,21 +9,21 @@ use Rattle.flt_life_model.specs.declared.replies.LaneReplies.{LaneReplies}
 use Rattle.flt_life_model.specs.declared.room.LaneRoom.{LaneRoom}
 use Rattle.flt_life_model.specs.Answers.{Told}
 use Rattle.flt_life_model.specs.Room.{told_in}
-use Rattle.flt_watch.specs.Block.{CanRunParts, Gains}
+use Rattle.flt_watch.specs.Block.{CanRunParts, WatchGains}
 use Rattle.flt_watch.proofs.PartsSoFar.{can_behind, can_next, gains_one, next_rooms}
 use Rattle.flt_watch.proofs.living.run_part.Given as given
 use Rattle.flt_watch.proofs.living.run_part.Goals as goal
 
 -- ---- a step
 
-gains_step : (g : given.Over) (c : goal.After-run_one g) → Gains c.args.main.now c.run_one.new.main (inl c.in-One.step) (told_in c.args.answers.now.own) (told_in c.run_one.new.answers.own) (map told_in c.args.answers.now.told.items)
+gains_step : (g : given.Over) (c : goal.After-run_one g) → WatchGains c.args.main.now c.run_one.new.main (inl c.in-One.step) (told_in c.args.answers.now.own) (told_in c.run_one.new.answers.own) (map told_in c.args.answers.now.told.items)
     (map told_in c.run_one.new.answers.told.items)
 gains_step g c =
     let own = told_in c.args.answers.now.own in
     let own_after = told_in c.run_one.new.answers.own in
     let told = map told_in c.args.answers.now.told.items in
     let same : map told_in c.run_one.new.answers.told.items ≡ told = ap (λ (v : Vec LaneReplies _). map told_in v.items) c.run_one.ensures.others in
-    subst (λ (l : List (List Told)). Gains c.args.main.now c.run_one.new.main (inl c.in-One.step) own own_after told l) (sym same)
+    subst (λ (l : List (List Told)). WatchGains c.args.main.now c.run_one.new.main (inl c.in-One.step) own own_after told l) (sym same)
     (gains_one c.args.main.now c.run_one.new.main c.in-One.step own own_after told c.requires.can.1.main_is c.run_one.ensures.stepped)
 
 pub returns-in-One-clause-gains : goal.returns-in-One-clause-gains

@@ -10,7 +10,7 @@ use Rattle.flt_life_model.proofs.Makings.{widths_more}
 use Rattle.flt_lane.specs.Runs.{calls_by}
 use Rattle.flt_lane.proofs.Lives.{runs_more, runs_none}
 use Rattle.flt_lane.proofs.Parts.{done_more, done_of, left_next, left_of}
-use Rattle.flt_watch.specs.Block.{CanRunParts, HaveRunParts}
+use Rattle.flt_watch.specs.Block.{CanRunParts, HaveWatchedParts}
 use Rattle.flt_watch.proofs.living.run_parts.Goals as goal
 
 pub loop-part-init : goal.loop-part-init
@@ -32,7 +32,7 @@ loop-part-preserved g c =
     let can = subst (λ (l : List (PartOf Step)). CanRunParts c.args.lock.now c.loop-part.main c.loop-part.lanes.rest.items c.loop-part.answers l) next c.loop-part.invariant.can in
     record {
       can = told.can (left_of parts (index + 1)) can;
-      ran = subst (λ (l : List (PartOf Step)). HaveRunParts c.args.main.now c.run_part.new.main l (told_in c.run_part.new.answers.own) (map told_in c.run_part.new.answers.told.items)) (sym more)
+      ran = subst (λ (l : List (PartOf Step)). HaveWatchedParts c.args.main.now c.run_part.new.main l (told_in c.run_part.new.answers.own) (map told_in c.run_part.new.answers.told.items)) (sym more)
           (runs_more MayBeAsked reply_after StepMakes calls_by c.args.main.now c.loop-part.main c.run_part.new.main (done_of parts index) _ _ (part_of c.part-item.result) told.gains.mine told.gains.others _ _
           c.loop-part.invariant.ran told.gains.dem told.gains.own_are told.gains.lanes_are);
       told_len = omega (arith, told.told_len, c.loop-part.invariant.told_len, wide);

@@ -7,8 +7,8 @@ use Rattle.flt_step.specs.declared.step.Part.{Part}
 use Rattle.flt_step.specs.Part.{parts_of}
 use Rattle.flt_life_model.specs.declared.life.Boot.TheVariants.{Started}
 use Rattle.flt_life_model.specs.Parts.{widths}
-use Rattle.flt_notify.specs.Table.{value_in}
-use Rattle.flt_watch.specs.Block.{IsPartFor}
+use Rattle.flt_notify.specs.Table.{value_of_kind}
+use Rattle.flt_watch.specs.Block.{IsWatchPartFor}
 use Rattle.flt_watch.specs.Text.{watch_text}
 use Rattle.flt_watch.specs.Watched.{IsWatchedLife}
 use Rattle.flt_watch.proofs.MadeScript.{nothing_written, same_base, same_values, watched_stays}
@@ -20,7 +20,7 @@ live-requires-clause-steps g c κs within =
     let script = c.args.script.now in
     let life = c.index-parts.result.now in
     let fit = livable script.config script.lives.items life c.requires.watchable c.index-parts.ensures script.in_range script.few script.few_parts in
-    subst (λ (parts : List Part). All (IsPartFor script.config) (parts_of parts)) (sym c.deref.ensures.value) fit.steps
+    subst (λ (parts : List Part). All (IsWatchPartFor script.config) (parts_of parts)) (sym c.deref.ensures.value) fit.steps
 
 pub live-requires-clause-numbers : goal.live-requires-clause-numbers
 live-requires-clause-numbers g c κs within =
@@ -52,7 +52,7 @@ returns-in-Ok-write_watched g c =
     let outcome = c.made.result in
     let made = c.made.ensures in
     let lived = subst (λ (l : List Part). IsWatchedLife script.config (parts_of l) watched.life watched.subs) c.deref.ensures.value c.in-Ok.ensures.life in
-    let text : watch_text (parts_of c.deref-2.result.now) watched.life.boot watched.life.replies.items (value_in watched.subs) ≡ watch_text parts (Started 0 outcome.base) outcome.answers.items (value_in outcome.subs) =
+    let text : watch_text (parts_of c.deref-2.result.now) watched.life.boot watched.life.replies.items (value_of_kind watched.subs) ≡ watch_text parts (Started 0 outcome.base) outcome.answers.items (value_of_kind outcome.subs) =
     λ i. watch_text (parts_of (c.deref-2.ensures.value i)) (made.boot i) (sym made.answers i) (same_values watched.subs outcome.subs (sym made.subs.0) (sym made.subs.1) i) in
     inl (record {
       parts = parts;
@@ -73,7 +73,7 @@ returns-in-Err-Failed g c =
     let outcome = c.made-in-Err-Failed.result in
     let made = c.made-in-Err-Failed.ensures in
     let lived = subst (λ (l : List Part). IsWatchedLife script.config (parts_of l) watched.life watched.subs) c.deref.ensures.value c.in-Ok.ensures.life in
-    let text : watch_text (parts_of c.deref-2.result.now) watched.life.boot watched.life.replies.items (value_in watched.subs) ≡ watch_text parts (Started 0 outcome.base) outcome.answers.items (value_in outcome.subs) =
+    let text : watch_text (parts_of c.deref-2.result.now) watched.life.boot watched.life.replies.items (value_of_kind watched.subs) ≡ watch_text parts (Started 0 outcome.base) outcome.answers.items (value_of_kind outcome.subs) =
     λ i. watch_text (parts_of (c.deref-2.ensures.value i)) (made.boot i) (sym made.answers i) (same_values watched.subs outcome.subs (sym made.subs.0) (sym made.subs.1) i) in
     inl (record {
       parts = parts;

@@ -9,7 +9,7 @@ use Rattle.flt_model.specs.Trace.{trace}
 use Rattle.flt_model.specs.declared.call.Op.TheVariants as ops
 use Rattle.flt_model.specs.declared.call.ReplyOf.TheVariants as replies
 use Rattle.flt_dem.specs.Standing.{DurablePartStands}
-use Rattle.flt_dem.specs.View.{counter_of}
+use Rattle.flt_dem.specs.View.{detection_counter_of}
 use Rattle.flt_dem.proofs.ViewLemmas.{counter_told}
 use Rattle.flt_dem.proofs.IdleLemmas.{stands_idle}
 use Rattle.flt_dem.proofs.state.DemState.show.Goals as goal
@@ -25,7 +25,7 @@ returns-clause-answer c = λ life past s.
     sym c.state-state.ensures ∙ ap (λ f. slice_get f.states event) c.durable-durable.ensures ∙ durable.states_stand.each event within in
     let state : c.state-state.result ≡ state_at life (trace life past) event = cc in
     let fits : SFits w8 c.detection_counter.result = search rules in
-    let counter = c.detection_counter.ensures ∙ ap (λ m. counter_of m event) c.self.view_is ∙ counter_told life past c.args.self.now s event within in
+    let counter = c.detection_counter.ensures ∙ ap (λ m. detection_counter_of m event) c.self.view_is ∙ counter_told life past c.args.self.now s event within in
     let stood = subst (λ f. DurablePartStands life (trace life past) f) (sym c.durable-durable.ensures) durable in
     let stored = c.occurrence.ensures life (trace life past) stood in
     let overflow = c.overflow.ensures ∙ stood.memory_stands.overflow in

@@ -1,6 +1,6 @@
 //! Every pattern of a cut and of a fault at each call on a sector.
 ghost use Rattle.std.specs.Prelude.{◌≡◌, ◌<◌};
-ghost use Rattle.flt_flash.specs.Memory.{state_of};
+ghost use Rattle.flt_flash.specs.Memory.{flash_state};
 ghost use Rattle.flt_flash.specs.State.{CanArm};
 
 use super::assert_blank;
@@ -91,9 +91,9 @@ fn run(
     numbers: &Numbers,
     call: Call,
 ) -> Result<(), FlashFailed>
-    requires { (state_of flash.old).pages ≡ 8 }
-    ensures pages { (state_of flash.new).pages ≡ 8 }
-    ensures boots { (state_of flash.new).bench.boots_left ≡ (state_of flash.old).bench.boots_left }
+    requires { (flash_state flash.old).pages ≡ 8 }
+    ensures pages { (flash_state flash.new).pages ≡ 8 }
+    ensures boots { (flash_state flash.new).bench.boots_left ≡ (flash_state flash.old).bench.boots_left }
 {
     match call {
         Call::Gates => ok_if(gates(flash, 0, 8) == Ok(Some(1))),
@@ -173,7 +173,7 @@ fn compare(
     pattern: Pattern,
     is_erase: bool,
 )
-    requires { (state_of flash.now).pages ≡ 8 }
+    requires { (flash_state flash.now).pages ≡ 8 }
 {
     for sector in 0..2 {
         for page in 0..8 {
@@ -189,9 +189,9 @@ fn compare(
 
 /// Whether the arm fired unless the call only reads, and a cut that fired turned the power off.
 fn is_left(flash: &mut FlashMem, is_cut: bool, only_reads: bool) -> bool
-    requires { (state_of flash.old).pages ≡ 8 }
-    ensures pages { (state_of flash.new).pages ≡ 8 }
-    ensures boots { (state_of flash.new).bench.boots_left ≡ (state_of flash.old).bench.boots_left }
+    requires { (flash_state flash.old).pages ≡ 8 }
+    ensures pages { (flash_state flash.new).pages ≡ 8 }
+    ensures boots { (flash_state flash.new).bench.boots_left ≡ (flash_state flash.old).bench.boots_left }
 {
     let mut out = [0; 32];
     (flash.armed() == 1) == only_reads
@@ -241,7 +241,7 @@ fn head_by(pattern: Pattern) -> Item {
 
 /// Whether a look at the flash tells what a call that failed by this pattern leaves.
 fn is_told(flash: &mut FlashMem, numbers: &Numbers, call: Call, pattern: Pattern) -> bool
-    requires { (state_of flash.old).pages ≡ 8 }
+    requires { (flash_state flash.old).pages ≡ 8 }
 {
     let all = pattern == Pattern::All;
     match call {

@@ -1,6 +1,6 @@
 //! Worked pages, written by hand.
 ghost use Rattle.std.specs.Prelude.{◌≡◌, IfOk};
-ghost use Rattle.flt_flash.specs.Memory.{state_of};
+ghost use Rattle.flt_flash.specs.Memory.{flash_state};
 
 use flt_flash::{BLANK_PAGE, FlashMem};
 use flt_pages::{Item, Numbers};
@@ -48,9 +48,9 @@ pub fn image() -> Image {
 
 /// A flash of an image, whose power may come back once.
 pub fn prepared(alloc: Global, image: Image) -> Result<FlashMem, AllocError>
-    ensures pages { IfOk result (λ flash. (state_of flash).pages ≡ 8) }
-    ensures boots { IfOk result (λ flash. (state_of flash).bench.boots_left ≡ 1) }
-    ensures armed { IfOk result (λ flash. (state_of flash).bench.armed ≡ 0) }
+    ensures pages { IfOk result (λ flash. (flash_state flash).pages ≡ 8) }
+    ensures boots { IfOk result (λ flash. (flash_state flash).bench.boots_left ≡ 1) }
+    ensures armed { IfOk result (λ flash. (flash_state flash).bench.armed ≡ 0) }
 {
     FlashMem::of(alloc, Vec::from_array(alloc, image)?, 1)
 }

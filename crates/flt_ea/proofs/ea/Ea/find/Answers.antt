@@ -5,7 +5,7 @@ use Rattle.flt_flash.specs.Content.{Content, size_of}
 use Rattle.flt_flash.specs.Image.{sector_at}
 use Rattle.flt_flash.specs.declared.blocks.Found.TheVariants.{Bytes, Missing, Invalid}
 use Rattle.flt_pages.proofs.Finding.{length_most}
-use Rattle.flt_ea.specs.Image.{bytes_behind, content_of, value_in}
+use Rattle.flt_ea.specs.Image.{bytes_after_gate, place_content, value_in}
 use Rattle.flt_ea.specs.declared.place.Held.{Held}
 use Rattle.flt_pages.proofs.BlankPages.{unless, lest}
 use Rattle.flt_ea.proofs.Standing.{StandsAt, stands_at, current_is, size_is, value_is, valid_value, invalid_value}
@@ -30,7 +30,7 @@ pub returns-in-None-clause-found : goal.returns-in-None-clause-found
 returns-in-None-clause-found g c =
     let units = sector_at (g.E.Eeprom.state c.args.self.now.device).image 0 in
     let value = value_is (stands g (goal.at.returns-in-None-clause-found g c).After-index) in
-    subst (λ (content : Content). ReadsContent content Missing c.args.out.now c.args.out.now) (sym (value ∙ ap (content_of units c.position-position.result) c.in-None.is)) refl
+    subst (λ (content : Content). ReadsContent content Missing c.args.out.now c.args.out.now) (sym (value ∙ ap (place_content units c.position-position.result) c.in-None.is)) refl
 
 pub returns-in-Some-clause-found : goal.returns-in-Some-clause-found
 returns-in-Some-clause-found g c =
@@ -45,7 +45,7 @@ returns-in_ok-read_bytes-in-Some-2-clause-found g c =
     let here = stands g (goal.at.returns-in_ok-read_bytes-in-Some-2-clause-found g c).After-index in
     let same : held ≡ c.in-Some.held = cc in
     let valid : held.gate.valid ≡ true = ap (λ (h : Held). h.gate.valid) same ∙ lest c.in-Some.held.gate.valid (sym c.if-not-held.false) in
-    let read = subst (λ n. c.read_bytes.new.out ≡ bytes_behind units n held.gate.length ++ drop held.gate.length c.args.out.now) c.gate_unit-gate.ensures c.in_ok-read_bytes-in-Some-2.ensures.read in
+    let read = subst (λ n. c.read_bytes.new.out ≡ bytes_after_gate units n held.gate.length ++ drop held.gate.length c.args.out.now) c.gate_unit-gate.ensures c.in_ok-read_bytes-in-Some-2.ensures.read in
     subst (λ (content : Content). ReadsContent content (Bytes held.gate.length) c.args.out.now c.read_bytes.new.out) (sym (valid_value here held c.in-Some-2.is valid)) (sym (size_is here held c.in-Some-2.is), read)
 
 pub returns-in_ok-read_bytes-in-Some-2-clause-spends : goal.returns-in_ok-read_bytes-in-Some-2-clause-spends

@@ -2,7 +2,7 @@ use Rattle.std.proofs.Common.{length, length-set, set, Result, Ok, Err, refl, sy
 use Rattle.flt_flash.specs.Image.{sector_at}
 use Rattle.flt_flash.specs.declared.flash.FlashFailed.{FlashFailed}
 use Rattle.flt_code.specs.Spoiled.{is_spoiled}
-use Rattle.flt_pages.specs.LogHolds.{asked_of}
+use Rattle.flt_pages.specs.LogHolds.{record_content}
 use Rattle.flt_ea.specs.State.{unit_at}
 use Rattle.flt_ea.specs.Image.{gate_unit}
 use Rattle.flt_ea.specs.Scan.{IsTable}
@@ -38,7 +38,7 @@ puts g c result writes =
 pub returns-then-is_last-clause-changes : goal.returns-then-is_last-clause-changes
 returns-then-is_last-clause-changes g c =
     let self = c.args.self.now in
-    spent_changes (stands g (goal.at.returns-then-is_last-clause-changes g c).After-index-held) (sym c.is_last.ensures ∙ c.if-is_last.true) (asked_of c.args.valid c.args.bytes.now) (length c.args.bytes.now) self.is_stale self.has_mounted
+    spent_changes (stands g (goal.at.returns-then-is_last-clause-changes g c).After-index-held) (sym c.is_last.ensures ∙ c.if-is_last.true) (record_content c.args.valid c.args.bytes.now) (length c.args.bytes.now) self.is_stale self.has_mounted
 
 pub returns-then-is_last-clause-answers : goal.returns-then-is_last-clause-answers
 returns-then-is_last-clause-answers g c = stuck_is (stands g (goal.at.returns-then-is_last-clause-answers g c).After-index-held) ∙ sym c.is_last.ensures ∙ c.if-is_last.true

@@ -1,7 +1,7 @@
 use Rattle.std.proofs.Common.{◌≡◌, ◌∙◌, sym, ap}
 use Rattle.flt_flash.specs.Calls.{found_of}
 use Rattle.flt_flash.specs.Image.{sector_at}
-use Rattle.flt_ea.specs.Image.{content_of}
+use Rattle.flt_ea.specs.Image.{place_content}
 use Rattle.flt_ea.specs.declared.place.Held.{Held}
 use Rattle.flt_ea.proofs.Standing.{StandsAt, stands_at, value_is, valid_found, invalid_value}
 use Rattle.flt_ea.proofs.ea.EaBlocks.look_up.Goals.{After-index}
@@ -13,7 +13,7 @@ stands g c = stands_at c.args.self.now (g.met.E.Eeprom.shape c.args.self.now.dev
 pub returns-in-None : goal.returns-in-None
 returns-in-None g c =
     let units = sector_at (g.E.Eeprom.state c.args.self.now.device).image 0 in
-    sym (ap found_of (value_is (stands g (goal.at.returns-in-None g c).After-index) ∙ ap (content_of units c.position.result) c.in-None.is))
+    sym (ap found_of (value_is (stands g (goal.at.returns-in-None g c).After-index) ∙ ap (place_content units c.position.result) c.in-None.is))
 
 pub returns-in-Some : goal.returns-in-Some
 returns-in-Some g c = valid_found (stands g (goal.at.returns-in-Some g c).After-index) c.in-Some.held c.in-Some.is c.if-held.true

@@ -5,7 +5,7 @@ use Rattle.flt_flash.specs.Content.{Content}
 use Rattle.flt_flash.specs.Blocks.{byte_pages}
 use Rattle.flt_sector_model.specs.Blocks.{block_value}
 use Rattle.flt_sector_model.proofs.Items.{is_among}
-use Rattle.flt_pages.specs.LogHolds.{asked_of, given, StandsAt}
+use Rattle.flt_pages.specs.LogHolds.{record_content, given, StandsAt}
 use Rattle.flt_fee.proofs.Standing.{Appending, mounted_stands, stale_mounted, stands_mounted, current_stays, done_standing}
 use Rattle.flt_fee.proofs.Appended.{blank_at_end, left_sound, failed_changes, failed_calls, done_calls, done_changes}
 use Rattle.flt_pages.specs.declared.place.RecordPlace.{RecordPlace}
@@ -58,7 +58,7 @@ invariant_of-self-2 g c =
     let here = goes g (goal.at.invariant_of-self-2 g c).After-append_record in
     let records = c.in_ok-append_record.ensures.records in
     let after = (g.F.Flash.state c.append_record.new.flash).image in
-    let value : ℕ → Content = given c.args.block (asked_of c.args.valid c.args.bytes.now) (block_value self.used self.numbers (g.F.Flash.state self.flash).image) in
+    let value : ℕ → Content = given c.args.block (record_content c.args.valid c.args.bytes.now) (block_value self.used self.numbers (g.F.Flash.state self.flash).image) in
     let last : self.end + (2 + byte_pages (length c.args.bytes.now)) ≡ self.end + 2 + c.byte_pages.result = omega (arith, c.byte_pages.ensures) in
     let same = with_items_is self.places c.note.new.places (omega (arith, c.note.ensures.size, ap length c.deref_mut.ensures.value, self.places.ok.0)) in
     let place : RecordPlace = record { page = self.end; length = length c.args.bytes.now; valid = c.args.valid } in

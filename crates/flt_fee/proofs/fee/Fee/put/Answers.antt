@@ -1,11 +1,11 @@
 use Rattle.std.proofs.Common.{◌≡◌, inl, Option, Result, Err, length, sym, ◌∙◌, subst, arith, rules}
 use Rattle.flt_flash.specs.Blocks.{live_pages}
 use Rattle.flt_flash.specs.declared.blocks.BlockFault.{BlockFault}
-use Rattle.flt_pages.specs.LogHolds.{asked_of}
+use Rattle.flt_pages.specs.LogHolds.{record_content}
 use Rattle.flt_fee.specs.declared.fee.Fee.{Fee}
 use Rattle.flt_fee.specs.Costs.{MakesRoom, Stores}
 use Rattle.flt_fee.specs.Fee.{uncounted_of}
-use Rattle.flt_fee.specs.Refusal.{refusal, AnswersBy}
+use Rattle.flt_fee.specs.Refusal.{record_refusal, AnswersBy}
 use Rattle.flt_flash.proofs.CallsInARow.{calls_after, more_calls}
 use Rattle.flt_fee.proofs.Costing.{put_costs, store_costs, stored_behind, unless}
 use Rattle.flt_fee.proofs.Refusing.{past_is}
@@ -25,7 +25,7 @@ returns-in_err-make_room-clause-stored g c =
     let same = same_refusal before settled c.args.block (length c.args.bytes.now) c.in_ok-settle.ensures.mounts.part.calls.follows.numbers c.in_ok-settle.ensures.mounts.part.calls.follows.room c.in_ok-settle.ensures.mounts.values (c.in_ok-settle.ensures.mounts.stuck c.args.block (length c.args.bytes.now)) in
     let told : c.from_residual-in_err-make_room.result ≡ Err c.in_err-make_room.field-0.0 = grind arith in
     record {
-      answers = subst (λ (result : Result (Unit {0}) BlockFault). AnswersBy (refusal before c.args.block (length c.args.bytes.now)) result) (sym told)
+      answers = subst (λ (result : Result (Unit {0}) BlockFault). AnswersBy (record_refusal before c.args.block (length c.args.bytes.now)) result) (sym told)
           (subst (λ (refused : Option BlockFault). AnswersBy refused (Err c.in_err-make_room.field-0.0)) same c.in_err-make_room.ensures.refuses.answers);
       stores = λ fresh none.
           let untouched = unless before after failed ((g.F.Flash.state new.flash) ≡ (g.F.Flash.state c.settle.new.self.flash))
@@ -54,7 +54,7 @@ returns-clause-changes g c =
     let settled = uncounted_of g.F.Flash.state c.settle.new.self in
     let roomy = uncounted_of g.F.Flash.state c.make_room.new.self in
     let after = uncounted_of g.F.Flash.state c.append.new.self in
-    changes_on before roomy after c.args.block (asked_of c.args.valid c.args.bytes.now) (length c.args.bytes.now) c.append.result
+    changes_on before roomy after c.args.block (record_content c.args.valid c.args.bytes.now) (length c.args.bytes.now) c.append.result
     (values_on before settled roomy c.in_ok-settle.ensures.mounts.values c.in_ok-make_room.ensures.values) c.append.ensures.never_full c.append.ensures.changes
 
 pub returns-clause-part : goal.returns-clause-part
@@ -79,7 +79,7 @@ returns-clause-stored g c =
     let after = uncounted_of g.F.Flash.state new in
     let same = same_refusal before settled c.args.block (length c.args.bytes.now) c.in_ok-settle.ensures.mounts.part.calls.follows.numbers c.in_ok-settle.ensures.mounts.part.calls.follows.room c.in_ok-settle.ensures.mounts.values (c.in_ok-settle.ensures.mounts.stuck c.args.block (length c.args.bytes.now)) in
     record {
-      answers = not_refused (refusal before c.args.block (length c.args.bytes.now)) c.append.result (sym same ∙ c.in_ok-make_room.ensures.refuses.answers) c.append.ensures.never_full;
+      answers = not_refused (record_refusal before c.args.block (length c.args.bytes.now)) c.append.result (sym same ∙ c.in_ok-make_room.ensures.refuses.answers) c.append.ensures.never_full;
       stores = λ fresh none. (let made = subst (λ (fee : Fee g.row.F.Denot g.F.Flash). MakesRoom fee.used fee.end (live_pages (uncounted_of g.F.Flash.state fee)) (length c.args.bytes.now) fee.sector (g.F.Flash.state fee.flash) (g.F.Flash.state roomy.flash))
           (c.in_ok-settle.ensures.nothing fresh).1 c.in_ok-make_room.ensures.made in
           store_costs old.used new.used old.numbers new.numbers (g.F.Flash.state old.flash) (g.F.Flash.state new.flash) (g.met.F.Flash.shape old.flash) old.end (length c.args.bytes.now) old.sector old.sectors

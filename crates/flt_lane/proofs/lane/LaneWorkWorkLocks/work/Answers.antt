@@ -1,5 +1,5 @@
 use Rattle.std.proofs.Common.{refl, rules, subst, sym}
-use Rattle.flt_lane.specs.Stepped.{HasRoomFor, IsLockCall}
+use Rattle.flt_lane.specs.Stepped.{HasRoomForAnswer, IsLockCall}
 use Rattle.flt_lane.proofs.OffStore.{lane_calls, stays_off}
 use Rattle.flt_lane.proofs.Running.{begins, goes_on, has_run, possible_next, room_next}
 use Rattle.flt_lane.proofs.lane.LaneWorkWorkLocks.work.Goals as goal
@@ -18,7 +18,7 @@ make_call-requires-clause-call g c =
 
 pub make_call-requires-clause-room : goal.make_call-requires-clause-room
 make_call-requires-clause-room g c =
-    subst (HasRoomFor c.loop-index.self.replies) (sym c.action_of.ensures)
+    subst (HasRoomForAnswer c.loop-index.self.replies) (sym c.action_of.ensures)
     (room_next c.args.locks.now c.args.self.now _ c.loop-index.index c.index-steps-index.result c.requires.ready.0 c.loop-index.invariant (search rules) c.index-steps-index.is)
 
 pub loop-index-preserved : goal.loop-index-preserved

@@ -4,7 +4,7 @@ use Rattle.flt_flash.specs.declared.blocks.Blocks.{Ghosts}
 use Rattle.flt_config.specs.declared.config.Config.{Config}
 use Rattle.flt_store_model.specs.Holding.{Generation}
 use Rattle.flt_dcm.specs.Unit.{Stands, UnitView}
-use Rattle.flt_dcm.specs.Whole.{state_of}
+use Rattle.flt_dcm.specs.Whole.{unit_seen}
 use Rattle.flt_store.specs.declared.store.Store.{Store}
 use Rattle.flt_store.specs.Store.{numbered, driver_of, IsRunning}
 use Rattle.flt_step.specs.Part.{parts_of}
@@ -32,7 +32,7 @@ pub take_steps-requires-clause-ready : goal.take_steps-requires-clause-ready
 take_steps-requires-clause-ready g c =
     let config = c.args.config.now in
     let state = c.args.buffers.now.state in
-    let stands = subst (λ (k : Config). Stands (start_from k state) [] (state_of c.boot.new.self)) c.requires.same c.boot.ensures.stands in
+    let stands = subst (λ (k : Config). Stands (start_from k state) [] (unit_seen c.boot.new.self)) c.requires.same c.boot.ensures.stands in
     record {
       same = c.boot.ensures.config ∙ c.requires.same;
       under_way = search rules;
@@ -91,8 +91,8 @@ returns-clause-lived g c =
     let before = driver_of c.args.store.now in
     let after = moment_of (driver_of c.take_steps.new.store) in
     let taken = c.take_steps.ensures.taken in
-    let stands = subst (λ (k : Config). Stands (start_from k state) [] (state_of c.boot.new.self)) c.requires.same c.boot.ensures.stands in
-    let begun = begins config first c.args.store.now c.requires.started.running (state_of c.boot.new.self) stands in
+    let stands = subst (λ (k : Config). Stands (start_from k state) [] (unit_seen c.boot.new.self)) c.requires.same c.boot.ensures.stands in
+    let begun = begins config first c.args.store.now c.requires.started.running (unit_seen c.boot.new.self) stands in
     let living = taken.living first begun in
     let is = c.life_of.ensures parts in
     let none = c.new-queue.ensures.items in

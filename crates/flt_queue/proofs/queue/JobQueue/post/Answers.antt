@@ -1,7 +1,7 @@
 use Rattle.std.proofs.Common.{rules, refl, ◌≡◌, ◌<◌, ◌≤◌, ◌+◌, nat_lt, length, true, false, slice_index_or}
 use native.Mathlib.Omega.{arith}
 use Rattle.flt_queue.specs.Queue.{pending, waiting}
-use Rattle.flt_queue.specs.Stands.{state_of}
+use Rattle.flt_queue.specs.Stands.{block_state}
 use Rattle.flt_queue.proofs.Steps.{post_refused, post_accepted, resting, is_accepted, as_many}
 use Rattle.flt_queue.proofs.queue.JobQueue.post.Goals as goal
 use Rattle.flt_queue.proofs.queue.JobQueue.post.Goals.{then-urgent, else-urgent}
@@ -9,7 +9,7 @@ use Rattle.flt_queue.proofs.queue.JobQueue.post.Goals.{then-urgent, else-urgent}
 pub returns-then-self-block-clause-stands : goal.returns-then-self-block-clause-stands
 returns-then-self-block-clause-stands c = λ past s.
     let less : c.args.job.now.block < 40 = search rules in
-    let here : slice_index_or c.args.self.now.table c.args.job.now.block resting ≡ state_of c.args.job.now.block past = s.table c.args.job.now.block resting less in
+    let here : slice_index_or c.args.self.now.table c.args.job.now.block resting ≡ block_state c.args.job.now.block past = s.table c.args.job.now.block resting less in
     let busy : pending c.args.job.now.block past ≡ true = search rules in
     let no : is_accepted past c.args.job.now.block ≡ false = search rules in
     post_refused _ _ _ past _ s no
@@ -28,7 +28,7 @@ returns-then-len-ge-WAITING-clause-answer c = λ past s.
     let full : 32 ≤ length (waiting past) = omega (arith, many, c.if-len-ge-WAITING.true, c.len.ensures.len, c.len-2.ensures.len) in
     let not_less : nat_lt (length (waiting past)) 32 ≡ false = search rules in
     let less : c.args.job.now.block < 40 = search rules in
-    let here : slice_index_or c.args.self.now.table c.args.job.now.block resting ≡ state_of c.args.job.now.block past = s.table c.args.job.now.block resting less in
+    let here : slice_index_or c.args.self.now.table c.args.job.now.block resting ≡ block_state c.args.job.now.block past = s.table c.args.job.now.block resting less in
     let free : pending c.args.job.now.block past ≡ false = search rules in
     λ job. rw (free, not_less) refl
 
@@ -39,7 +39,7 @@ returns-clause-stands c = λ past s.
     let is_less : nat_lt (length (waiting past)) 32 ≡ true = search rules in
     let less : c.args.job.now.block < 40 = search rules in
     let within : c.args.job.now.block < length c.args.self.now.table = search rules in
-    let here : slice_index_or c.args.self.now.table c.args.job.now.block resting ≡ state_of c.args.job.now.block past = s.table c.args.job.now.block resting less in
+    let here : slice_index_or c.args.self.now.table c.args.job.now.block resting ≡ block_state c.args.job.now.block past = s.table c.args.job.now.block resting less in
     let free : pending c.args.job.now.block past ≡ false = search rules in
     let accepted : is_accepted past c.args.job.now.block ≡ true = rw (free, is_less) refl in
     elim c.if-urgent.branch [
@@ -53,6 +53,6 @@ returns-clause-answer c = λ past s.
     let room : length (waiting past) < 32 = omega (arith, many, c.if-len-ge-WAITING.false, c.len.ensures.len, c.len-2.ensures.len) in
     let is_less : nat_lt (length (waiting past)) 32 ≡ true = search rules in
     let less : c.args.job.now.block < 40 = search rules in
-    let here : slice_index_or c.args.self.now.table c.args.job.now.block resting ≡ state_of c.args.job.now.block past = s.table c.args.job.now.block resting less in
+    let here : slice_index_or c.args.self.now.table c.args.job.now.block resting ≡ block_state c.args.job.now.block past = s.table c.args.job.now.block resting less in
     let free : pending c.args.job.now.block past ≡ false = search rules in
     λ job. rw (free, is_less) refl

@@ -2,7 +2,7 @@ use Rattle.std.proofs.Common.{rules, refl, ◌≡◌, ◌<◌, ◌∷◌, [], le
 use Rattle.std.proofs.lemmas.List.{nil_from_length}
 use Rattle.std.proofs.lemmas.List.Elements.{All-rest}
 use Rattle.flt_queue.specs.Queue.{IsJob}
-use Rattle.flt_queue.specs.Stands.{state_of}
+use Rattle.flt_queue.specs.Stands.{block_state}
 use Rattle.flt_queue.proofs.Steps.{resting, whole_after, take_urgent, take_standard, next_urgent, next_standard, nothing_left, take_idles, head_all}
 use Rattle.flt_queue.proofs.queue.JobQueue.take.Goals as goal
 use Rattle.flt_queue.proofs.queue.JobQueue.take.Goals.{then-not-is_empty, else-not-is_empty+then-not-is_empty-2}
@@ -48,7 +48,7 @@ returns-clause-stands c = λ past s.
           let is_job : IsJob c.args.self.now.blocks c.if-not-is_empty.job = head_all (IsJob c.args.self.now.blocks) _ _ _ are c.args.self.now.urgent_jobs in
           let less : c.if-not-is_empty.job.block < 40 = search rules in
           let within : c.if-not-is_empty.job.block < length c.args.self.now.table = search rules in
-          let here : slice_index_or c.args.self.now.table c.if-not-is_empty.job.block resting ≡ state_of c.if-not-is_empty.job.block past = s.table c.if-not-is_empty.job.block resting less in
+          let here : slice_index_or c.args.self.now.table c.if-not-is_empty.job.block resting ≡ block_state c.if-not-is_empty.job.block past = s.table c.if-not-is_empty.job.block resting less in
           take_urgent _ c.if-not-is_empty.job w.take_first.new.jobs.items past c.args.self.now _ (slice_index_or c.args.self.now.table c.if-not-is_empty.job.block resting) s within here are (rw w.self-is refl) (rw w.self-is refl) refl
       | else-not-is_empty+then-not-is_empty-2 w ↦
           let none : c.args.self.now.urgent.items ≡ [] = nil_from_length c.args.self.now.urgent.items (search rules) in
@@ -56,7 +56,7 @@ returns-clause-stands c = λ past s.
           let is_job : IsJob c.args.self.now.blocks c.if-not-is_empty.job = head_all (IsJob c.args.self.now.blocks) _ _ _ are c.args.self.now.standard_jobs in
           let less : c.if-not-is_empty.job.block < 40 = search rules in
           let within : c.if-not-is_empty.job.block < length c.args.self.now.table = search rules in
-          let here : slice_index_or c.args.self.now.table c.if-not-is_empty.job.block resting ≡ state_of c.if-not-is_empty.job.block past = s.table c.if-not-is_empty.job.block resting less in
+          let here : slice_index_or c.args.self.now.table c.if-not-is_empty.job.block resting ≡ block_state c.if-not-is_empty.job.block past = s.table c.if-not-is_empty.job.block resting less in
           take_standard _ c.if-not-is_empty.job w.take_first-then-not-is_empty-2.new.jobs.items past c.args.self.now _ (slice_index_or c.args.self.now.table c.if-not-is_empty.job.block resting) s within here none are (rw w.self-is none) (rw w.self-is refl) refl
     ]
 

@@ -4,9 +4,9 @@ use Rattle.std.proofs.lemmas.List.{map-append}
 use Rattle.flt_script.specs.declared.block.OpenBlock.{OpenBlock}
 use Rattle.flt_step.specs.declared.step.Part.{Part}
 use Rattle.flt_step.specs.declared.step.Part.TheVariants.{One}
-use Rattle.flt_script.specs.Next.{state, cause_of}
+use Rattle.flt_script.specs.Next.{state, line_cause_of}
 use Rattle.flt_step.specs.Part.{part_of, parts_of}
-use Rattle.flt_step.specs.Step.{arm_count, drain_count}
+use Rattle.flt_step.specs.Step.{arms_of_step, drain_count}
 use Rattle.flt_script.proofs.InMemory.{steps_of_lanes}
 use Rattle.flt_script.proofs.Misplaced.{put_alone, put_in_lane, refused_in_lane}
 use Rattle.flt_script.proofs.draft.Draft.add_step.Goals as goal
@@ -15,17 +15,17 @@ use Rattle.flt_script.proofs.draft.Draft.add_step.Goals.{in-None+in_ok-reserve-i
 pub returns-in_err-add_step-in-Some-block : goal.returns-in_err-add_step-in-Some-block
 returns-in_err-add_step-in-Some-block c =
     let fault = c.in_err-add_step-in-Some-block in
-    let arms : c.from.result ≡ arm_count c.in-Some.step = search rules in
+    let arms : c.from.result ≡ arms_of_step c.in-Some.step = search rules in
     let drains : c.from-2.result ≡ drain_count c.in-Some.step = search rules in
     let read = sym c.step_in.ensures.value ∙ c.in-Some.is in
     let there = ap (option_map (λ (block : OpenBlock). steps_of_lanes block.lanes.items)) c.in-Some-block.is in
     let told = refused_in_lane c.args.step c.in-Some.step (state c.args.self.now) read (omega arith) (omega (arith, arms)) (omega (arith, drains))
-    (steps_of_lanes c.in-Some-block.block.lanes.items) there (cause_of fault.field-0.0) fault.ensures in
+    (steps_of_lanes c.in-Some-block.block.lanes.items) there (line_cause_of fault.field-0.0) fault.ensures in
     search (rules, told)
 
 pub returns : goal.returns
 returns c =
-    let arms : c.from.result ≡ arm_count c.in-Some.step = search rules in
+    let arms : c.from.result ≡ arms_of_step c.in-Some.step = search rules in
     let drains : c.from-2.result ≡ drain_count c.in-Some.step = search rules in
     let read = sym c.step_in.ensures.value ∙ c.in-Some.is in
     elim c.match-self.branch [

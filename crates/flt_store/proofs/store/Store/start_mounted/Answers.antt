@@ -21,7 +21,7 @@ use Rattle.flt_store.proofs.Beginning.{begins_of, begun_fits, found_in, judged_i
 use Rattle.flt_store.proofs.Faults.{never_of_blocks, refused_by_reading, refused_by_writing, was_stuck}
 use Rattle.flt_store.proofs.OutOfNumbers.{begun_stuck_from}
 use Rattle.flt_restore.specs.declared.fault.StartFault.TheVariants.{Flash, SequenceSpent}
-use Rattle.flt_restore.specs.Told.{told_of}
+use Rattle.flt_restore.specs.Told.{start_fault_of}
 use Rattle.flt_store.proofs.Dark.{unbegun_from, was_flash_of_write}
 use Rattle.flt_store.proofs.store.Store.start_mounted.Goals.{After-begin_by}
 use Rattle.flt_store.proofs.store.Store.start_mounted.Goals as goal
@@ -115,7 +115,7 @@ returns-in_err-commit-clause-causes g c =
           (resolved c.args.config.now c.begin_by.ensures.valid first third fault writes c.args.self.now.numbers c.requires.mounted.room c.requires.mounted.mounted begun.borne)
           (λ sector page is. writes.mounted c.requires.mounted.mounted sector page (ap Err is)));
       dark = λ flash.
-          (let is : told_of fault ≡ Flash = sym (told_by _ answer Flash made flash) in
+          (let is : start_fault_of fault ≡ Flash = sym (told_by _ answer Flash made flash) in
           let fault_is = was_flash_of_write c.args.config.now c.begin_by.ensures.valid first third fault writes c.args.self.now.numbers c.requires.mounted.room c.requires.mounted.mounted begun.borne is in
           inr (unbegun_from first second third c.restore.ensures.reads.calls c.restore.ensures.reads.values c.args.config.now (begun.unbegun (ap Err fault_is))));
       unwritten = handed_on _ answer _ made (λ of_blocks. absurd (never_of_blocks fault of_blocks));
@@ -124,7 +124,7 @@ returns-in_err-commit-clause-causes g c =
           let same = c.restore.ensures.reads.spent in
           absurd (cc (was, no, same)));
       spent = λ told.
-          (let is : told_of fault ≡ SequenceSpent = sym (told_by _ answer SequenceSpent made told) in
+          (let is : start_fault_of fault ≡ SequenceSpent = sym (told_by _ answer SequenceSpent made told) in
           inr (begun_stuck_from c.args.config.now first second third c.restore.ensures.reads.calls c.restore.ensures.reads.values (c.in_err-commit.ensures.stuck (ap Err (was_stuck fault is)))));
     }
 

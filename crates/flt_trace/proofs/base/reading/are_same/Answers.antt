@@ -4,7 +4,7 @@ use Rattle.std.specs.String.{string_bytes}
 use Rattle.std.proofs.lemmas.Bool.{not-false}
 use Rattle.std.proofs.lemmas.List.{get_or-map, length-map}
 use Rattle.std.proofs.lemmas.Slice.Eq.{bytes_eq-Decides}
-use Rattle.flt_trace.specs.Trace.{seen}
+use Rattle.flt_trace.specs.Trace.{texts_seen}
 use Rattle.flt_trace.proofs.Strings.{seen_at}
 use Rattle.flt_trace.proofs.Same.{one_more}
 use Rattle.flt_trace.proofs.base.reading.are_same.Goals as goal
@@ -37,6 +37,6 @@ loop-place-preserved c =
     let among_printed : place < length printed = omega (arith, c.loop-place-test.true, c.if-texts-printed.false) in
     let alike = sym c.ne.ensures ∙ c.if-ne.false in
     let same : (get_or texts place none).now ≡ c.as_str.result.now = (bytes_eq-Decides (get_or texts place none).now c.as_str.result.now).0 (not-false _ alike) in
-    one_more (seen texts) (map string_bytes printed) place [] (omega (arith, among, length-map texts (λ (t : Bor (List ℕ)). t.now))) (omega (arith, among_printed, length-map printed string_bytes))
+    one_more (texts_seen texts) (map string_bytes printed) place [] (omega (arith, among, length-map texts (λ (t : Bor (List ℕ)). t.now))) (omega (arith, among_printed, length-map printed string_bytes))
     c.loop-place.invariant
     (sym (seen_at texts place none among) ∙ same ∙ c.as_str.ensures.value ∙ ap string_bytes c.index-printed-place.is ∙ sym (get_or-map string_bytes printed place one [] among_printed))
