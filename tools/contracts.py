@@ -2,9 +2,10 @@
 """Tells which contracts are too long to be read aloud, and which words mean two things.
 
 A contract is what stands between the signature of a function and its body: its clauses, each a `requires` or an `ensures`. A function is
-told that has more than 10 clauses, or more than 900 characters in them. A word is told that two or more crates define, each for itself.
+told that has more than 10 clauses, or more than 900 characters in them. A word is told that two or more crates define, each for itself,
+with the reason why it may stand in them.
 
-With `--most FUNCTIONS WORDS` it ends with 1 if more of them are told than this, so that no change adds one.
+With `--most FUNCTIONS WORDS` it ends with 1 if more of them are told than this, or if a word has no reason, so that no change adds one.
 """
 import argparse
 import collections
@@ -17,6 +18,21 @@ import sys
 TOP = os.path.dirname(os.path.dirname(os.path.abspath(__file__)))
 MOST_CLAUSES = 10
 MOST_CHARACTERS = 900
+# Why two or more crates may define a word: it says the same of both, and they know nothing of each other or one is the other's case.
+REASONS = {
+    "AnswersBy": "by which answers a driver refuses a record: of the flash, and of the EEPROM",
+    "Calls": "what a call on a lock tells: on any lock, and on those of the status machine and of the queue",
+    "CallsInto": "the same of a call that writes beside its answer: on the lock of the status machine, and on that of the queue",
+    "History": "the calls so far: of the status machine, and of the queue",
+    "IsCall": "what a call that was made tells: on any lock, and on those of the status machine and of the queue",
+    "IsMounted": "what a driver knows once it has mounted: that of the flash, and that of the EEPROM",
+    "IsSeatOf": "the lock made the seat: any lock, and that of the status machine",
+    "Seat": "what is known of a seat: of the lock of the status machine, and of that of the queue",
+    "reply_after": "the reply after these calls: of the status machine, under its lock and in a life, and of the queue",
+    "state_by": "a driver by what it keeps and by its device: that of the flash, and that of the EEPROM",
+    "uncounted_of": "a driver but for its counts: that of the flash, and that of the EEPROM",
+    "whole": "a kind of answer with what was written beside it: on any lock, and on those of the status machine and of the queue",
+}
 FUNCTION = re.compile(r"^\s*(?:pub(?:\([a-z]+\))? )?fn ([a-z_0-9]+)", re.M)
 CLAUSE = re.compile(r"^\s*(?:requires|ensures)\b[^{\n]*\{", re.M)
 BODY = re.compile(r"^\s*\{|;\s*$|\{\}\s*$", re.M)
@@ -107,9 +123,10 @@ def main() -> int:
         for it in long:
             print(f"{it.characters:5} characters {len(it.clauses):3} clauses  {it.crate}::{it.name}  {os.path.relpath(it.path, TOP)}")
         for word, where in same.items():
-            print(f"{word}: {', '.join(where)}")
+            print(f"{word}: {', '.join(where)}: {REASONS.get(word, 'no reason')}")
     print(f"{len(long)} long contracts, {len(same)} words of two or more crates")
-    return int(asked.most is not None and (len(long) > asked.most[0] or len(same) > asked.most[1]))
+    unreasoned = [word for word in same if word not in REASONS]
+    return int(asked.most is not None and (len(long) > asked.most[0] or len(same) > asked.most[1] or unreasoned != []))
 
 
 if __name__ == "__main__":
