@@ -65,7 +65,7 @@ pub trait Blocks {
 
     /// Looks at the device as a power-up left it. It answers `Ok` only where the image has no fault.
     ///
-    /// At `Err` nothing was written: after `Flash` mount again; after `Damaged` only a new image helps.
+    /// At `Err` no block changed: after `Flash` mount again; after `Damaged` only a new image helps.
     fn mount(&mut self) -> Result<(), BlockFault>
         ensures values { SameValues (state self.old) (state self.new) }
         ensures calls { BlockCalls (state self.old) (state self.new) result }
