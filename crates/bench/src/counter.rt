@@ -17,7 +17,7 @@ impl Counter {
         Counter { count: 0 }
     }
 
-    /// Counts one operation more, and tells how many there were.
+    /// Counts one operation more, and returns how many there were.
     pub fn add(&mut self) -> u64
         ensures count { self.new.count ≡ (self.old.count + 1) % 2 ^ 64 }
         ensures told { result ≡ self.new.count }

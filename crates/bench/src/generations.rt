@@ -1,4 +1,4 @@
-//! Saves and start-ups of a state of so many events and a full memory.
+//! Saves and start-ups of a state of a number of events and a full memory.
 ghost use Rattle.std.specs.Prelude.{◌≡◌, IfSome};
 ghost use Rattle.flt_store.specs.Cause.{HasRoom};
 ghost use Rattle.flt_store.specs.Store.{IsAlive, driver_of};
@@ -21,7 +21,7 @@ enum Changed {
     All,
 }
 
-/// So many events, room for 16 entries, and no application block.
+/// This many events, room for 16 entries, and no application block.
 pub fn config(count: u16) -> Option<ValidConfig> {
     let mut events = ArrayVec::new();
     for number in 0..count {

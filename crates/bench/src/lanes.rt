@@ -23,7 +23,7 @@ fn call_turn<R: Wait>(rt: &R, turn: &Turn<Counter>, mut seat: Seat<Counter>) -> 
     last
 }
 
-/// So many seats, which share the main seat's calls.
+/// This many seats, which share the main seat's calls.
 fn seats(
     alloc: Global,
     turn: &Turn<Counter>,
@@ -42,7 +42,7 @@ fn seats(
     Ok(seats)
 }
 
-/// Runs this many lanes of so many calls on the ticket lock. The greatest reply, which is the number of all calls.
+/// Runs this many lanes of that number of calls on the ticket lock. The greatest reply, which is the number of all calls.
 pub fn run_turn<R: Threads + Wait + Sync>(
     rt: &R,
     alloc: Global,

@@ -1,7 +1,7 @@
 //! Makes what `bench/lock.sh` and `bench/storage.sh` time and count: calls over one lock, and calls on the drivers and the store over
 //! their devices in memory.
 //!
-//! The first word is `lock` or `storage`; the module of that name tells the words behind it. It stands on `flt_turn`, on `flt_store` and
+//! The first word is `lock` or `storage`; the module of that name says which words follow it. It depends on `flt_turn`, on `flt_store` and
 //! on `Driver` of `flt_lives`, and keeps no contract of its own but that of its machine.
 #![tactic(auto)]
 
@@ -18,7 +18,7 @@ use std::sync::Wait;
 use std::thread::Threads;
 use std::{env, io};
 
-/// The words behind the program's name.
+/// The words after the program's name.
 fn words(rt: &(impl Env + AllocGlobal)) -> io::Result<Vec<String>> {
     let mut words = Vec::new(rt.alloc());
     for word in env::args(rt)?.skip(1) {
@@ -27,7 +27,7 @@ fn words(rt: &(impl Env + AllocGlobal)) -> io::Result<Vec<String>> {
     Ok(words)
 }
 
-/// What is told of what the words ask for.
+/// What is reported of what the words ask for.
 fn told<R: Threads + Wait + AllocGlobal + Sync>(rt: &R, words: &[String]) -> Option<String> {
     let (what, words) = words.split_first()?;
     match what.as_str() {

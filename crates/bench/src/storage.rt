@@ -22,7 +22,7 @@ const UNITS: u16 = 1090;
 /// How many events a state has where no word says it.
 const FEW_EVENTS: u16 = 64;
 
-/// Makes the calls that the word names, for a configuration of so many events, over a blank device, which comes back.
+/// Makes the calls that the word names, for a configuration of this many events, over a blank device, which comes back.
 fn run_on<D: Driver>(
     alloc: Global,
     device: D::Device,

@@ -12,9 +12,9 @@ pub(crate) enum Word {
     Watch,
     /// It is checked.
     Check,
-    /// It is a dump: what the image of a flash holds is told.
+    /// It is a dump: what the image of a flash holds is reported.
     Inspect,
-    /// It is a trace: whether the answers of the life are right is told.
+    /// It is a trace: whether the answers of the life are right is reported.
     Audit,
     /// The trace of its last life is made.
     Trace,
@@ -70,7 +70,7 @@ pub(crate) enum Answer {
     OtherReport,
 }
 
-/// Tells how what a program made of a case compares.
+/// Reports how what a program made of a case compares.
 pub(crate) fn tell(rt: &impl Print, case: &Case<'_>, answer: Answer) -> io::Result<()> {
     let word = case.word.text();
     let name = case.name;

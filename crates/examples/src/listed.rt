@@ -105,7 +105,7 @@ static EXAMPLES: [(&str, Words, u8); 70] = [
     ("watched_save", Words::Watch, 2),
 ];
 
-/// Runs the script of this name under this word, tells how its status and its report compare with this status and with the report of the
+/// Runs the script of this name under this word, reports how its status and its report compare with this status and with the report of the
 /// same name, and answers whether they are the same.
 fn run_example<R: Files + AllocGlobal + Print + Threads + Wait + Sync>(
     rt: &R,
@@ -128,7 +128,7 @@ fn run_example<R: Files + AllocGlobal + Print + Threads + Wait + Sync>(
     Ok(answer == Answer::AsWritten)
 }
 
-/// Tells of each example whether it is as written, and answers whether all are.
+/// Reports of each example whether it is as written, and answers whether all are.
 pub(crate) fn run_examples<R: Files + AllocGlobal + Print + Threads + Wait + Sync>(
     rt: &R,
 ) -> io::Result<bool> {

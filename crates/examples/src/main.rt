@@ -2,7 +2,7 @@
 //! for it.
 //!
 //! An example is a script in a file of its own, beside its report (`listed`). A vector is one of the many scripts of a pack, each with the
-//! report that an independent program gives for it (`vectors`, and `pack` for the form of a pack). The crate stands on `flt_program` and
+//! report that an independent program gives for it (`vectors`, and `pack` for the form of a pack). The crate depends on `flt_program` and
 //! `flt_examine`, and makes the one call `program` as `faultmem` does, and the one call `examine` as `flt_inspect` does, over streams in
 //! memory (`running`).
 #![tactic(auto)]
@@ -22,7 +22,7 @@ use std::rt::Files;
 use std::sync::Wait;
 use std::thread::Threads;
 
-/// Tells of the examples and of the vectors, and answers whether all are as written.
+/// Reports on the examples and the vectors, and answers whether all are as written.
 fn run_all<R: Files + AllocGlobal + Print + Threads + Wait + Sync>(rt: &R) -> io::Result<bool> {
     let examples = run_examples(rt)?;
     let vectors = run_vectors(rt)?;

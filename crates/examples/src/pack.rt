@@ -1,7 +1,7 @@
-//! A pack: a file of vectors, one behind the other.
+//! A pack: a file of vectors, one after the other.
 //!
-//! A vector is a line `NAME WORD STATUS SCRIPT_BYTES REPORT_BYTES`, then so many bytes of the script and a line feed, then so many bytes of
-//! the report and a line feed. A script may hold any byte, so only the two lengths say where it ends; the line feed behind it is there for
+//! A vector is a line `NAME WORD STATUS SCRIPT_BYTES REPORT_BYTES`, then the script in that number of bytes and a line feed, then the report
+//! in that number of bytes and a line feed. A script may hold any byte, so only the two lengths say where it ends; the line feed after it is there for
 //! readers, who find a vector by its name at the front of a line. `tools/pack_vectors.py` makes packs of files and files of packs.
 ghost use Rattle.std.specs.Prelude.{◌<◌, IfSome, length};
 
@@ -11,7 +11,7 @@ use crate::case::{Case, Word};
 #[derive(Clone, Copy)]
 pub(crate) struct Malformed;
 
-/// The vectors of a pack that are left. Where it does not go on with one, that is told once, and nothing is left.
+/// The vectors of a pack that are left. Where it does not go on with one, that is reported once, and nothing is left.
 #[derive(Drop)]
 pub(crate) struct Pack<'a> {
     rest: &'a [u8],
@@ -58,7 +58,7 @@ struct Header<'a> {
     report_len: usize,
 }
 
-/// The vector that a pack begins with, and what stands behind it.
+/// The vector that a pack begins with, and what follows it.
 fn split_vector(pack: &[u8]) -> Option<(Case<'_>, &[u8])>
     ensures { IfSome result (λ parts. length parts.1.now < length pack.now) }
 {
@@ -92,7 +92,7 @@ fn read_header(line: &[u8]) -> Option<Header<'_>> {
     })
 }
 
-/// The bytes before the first line feed, and those behind it.
+/// The bytes before the first line feed, and those after it.
 fn split_line(bytes: &[u8]) -> Option<(&[u8], &[u8])>
     ensures { IfSome result (λ parts. length parts.1.now < length bytes.now) }
 {
@@ -100,7 +100,7 @@ fn split_line(bytes: &[u8]) -> Option<(&[u8], &[u8])>
     split_piece(bytes, len)
 }
 
-/// The first `len` bytes, and those behind the line feed that follows them.
+/// The first `len` bytes, and those after the line feed that follows them.
 fn split_piece(bytes: &[u8], len: usize) -> Option<(&[u8], &[u8])>
     ensures { IfSome result (λ parts. length parts.1.now < length bytes.now) }
 {

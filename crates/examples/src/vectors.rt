@@ -9,7 +9,7 @@ use std::sync::Wait;
 use std::thread::Threads;
 use std::{fs, io};
 
-/// The kinds of the vectors. Those of a kind stand in one pack.
+/// The kinds of the vectors. Those of a kind are in one pack.
 static KINDS: [&str; 11] = [
     // One lane, without a save.
     "plain",
@@ -35,7 +35,7 @@ static KINDS: [&str; 11] = [
     "trace",
 ];
 
-/// Runs what stands in a pack of this kind at this place, tells it if it is no vector or not as written, and answers whether it is as
+/// Runs what a pack of this kind has at this place, reports it if it is no vector or not as written, and answers whether it is as
 /// written.
 fn run_vector<R: AllocGlobal + Print + Threads + Wait + Sync>(
     rt: &R,
@@ -55,7 +55,7 @@ fn run_vector<R: AllocGlobal + Print + Threads + Wait + Sync>(
     Ok(false)
 }
 
-/// Tells how many vectors of a kind are as written, and which are not, and answers whether all are.
+/// Reports how many vectors of a kind are as written, and which are not, and answers whether all are.
 fn run_pack<R: Files + AllocGlobal + Print + Threads + Wait + Sync>(
     rt: &R,
     kind: &str,
@@ -73,7 +73,7 @@ fn run_pack<R: Files + AllocGlobal + Print + Threads + Wait + Sync>(
     Ok(same == seen)
 }
 
-/// Tells of the vectors of each kind, and answers whether all are as written.
+/// Reports the vectors of each kind, and answers whether all are as written.
 pub(crate) fn run_vectors<R: Files + AllocGlobal + Print + Threads + Wait + Sync>(
     rt: &R,
 ) -> io::Result<bool> {

@@ -4,7 +4,7 @@ use Rattle.flt_io.specs.Fault.{Rose}
 use Rattle.flt_program.specs.declared.choosing.Ended.{Ended}
 use Rattle.flt_program.specs.Program.{program_status}
 
--- The kinds of value that have a subscriber, each of which is told of the changes of a watch.
+-- The kinds of value that have a subscriber, each of which is called at each change of a watch.
 abbrev pub program_kinds : List ℕ
 program_kinds = 0 ∷ 1 ∷ 2 ∷ []
 

@@ -1,7 +1,7 @@
 //! A session of the fault memory over the real streams: `live CONFIG [IMAGE]` reads the configuration from the file CONFIG, keeps the flash in
 //! the file IMAGE, or in memory, and answers each line of standard input by one line of standard output.
 //!
-//! It stands on `flt_io`, `flt_did` and `flt_live`, and makes the one call `run_live`, with the program's table of data identifiers.
+//! It depends on `flt_io`, `flt_did` and `flt_live`, and makes the one call `run_live`, with the program's table of data identifiers.
 #![tactic(auto)]
 
 use flt_did::{DID_ROWS, DidTable, program_table};

@@ -1,4 +1,4 @@
--- Which texts tell no life, and what is due of them.
+-- Which texts describe no life, and what is due of them.
 use Rattle.std.proofs.Common.{◌≡◌, ℕ, suc, List, [], ◌∷◌, length, refl, Option, Some, None, Result, Ok, Err, sym, ap, subst, ◌∙◌, inl, inr}
 use Rattle.std.specs.Prelude.{IfOk, IfSome, IsUtf8, codes}
 use Rattle.serde_json.specs.Read.{read}
@@ -20,7 +20,7 @@ pub of_found : {A : Type 0} (Q : A → Type 0) (found : Option A) (x : A) → fo
 of_found Q None x is told = absurd (cc is)
 of_found Q (Some y) x is told = let same : y ≡ x = cc is in subst Q same told
 
--- ---- what a line tells, where memory did not run out
+-- ---- what a line describes, where memory did not run out
 module _ (dids : List DidUse) where
   pub json_due : {E : Type 0} (bytes : List ℕ) (line : Result Verdict E) → (IsUtf8 bytes → read bytes ≡ None)
       → IfOk line (λ v. due_of v ≡ line_due 11 (codes "json")) → IfOk line (λ v. IsAudited dids bytes (due_of v))

@@ -1,4 +1,4 @@
--- What an audit tells of bytes: whether each answer of a trace is that of the status machine to its call, after the calls before it.
+-- What an audit reports about bytes: whether each answer of a trace is that of the status machine to its call, after the calls before it.
 use Rattle.std.specs.Prelude.{◌≡◌, ◌⊎◌, ℕ, ◌+◌, if◌then◌else◌, List, [], ◌∷◌, length, map, codes, ◌++◌, Option, Some, None, IsUtf8}
 use Rattle.std.specs.Fmt.{decimal}
 use Rattle.std.specs.Str.{bytes_eq}
@@ -36,17 +36,17 @@ verdict_by calls (Some place) = line_due 13 (codes "no " ++ decimal place)
 abbrev pub verdict : Texts → ToldLife → Due
 verdict texts told = verdict_by (length texts.journal) (unlike_from 0 texts.answers (due_texts told))
 
--- Texts that tell no life.
+-- Texts that describe no life.
 abbrev pub TellsNone : List DidUse → Texts → Type 0
 TellsNone dids texts = (told : ToldLife) → TellsLife dids texts told → ⊥
 
--- What came of the texts of a trace: they tell no life, or the answers of the life that they tell differ first at this place, or nowhere.
+-- What came of the texts of a trace: they describe no life, or the answers of the life that they describe differ first at this place, or nowhere.
 abbrev pub IsAuditOf : List DidUse → Texts → Audited → Type 0
 IsAuditOf dids texts NoLife = TellsNone dids texts
 IsAuditOf dids texts AllDue = (told : ToldLife) × TellsLife dids texts told × (None ≡ unlike_from 0 texts.answers (due_texts told))
 IsAuditOf dids texts (Differs place) = (told : ToldLife) × TellsLife dids texts told × (Some place ≡ unlike_from 0 texts.answers (due_texts told))
 
--- What is due of texts: the verdict of the life that they tell, or that they tell none.
+-- What is due of texts: the verdict of the life that they describe, or that they describe none.
 abbrev pub IsDueOfTexts : List DidUse → Texts → Due → Type 0
 IsDueOfTexts dids texts due =
     (TellsNone dids texts × (due ≡ line_due 12 (codes "shape"))) ⊎ ((told : ToldLife) × TellsLife dids texts told × (due ≡ verdict texts told))

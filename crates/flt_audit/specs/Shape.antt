@@ -1,4 +1,4 @@
--- What a trace tells: a configuration, the state with which a life of it began, and the calls of that life.
+-- What a trace describes: a configuration, the state with which a life of it began, and the calls of that life.
 use Rattle.std.specs.Prelude.{◌≡◌, List, length, Ok}
 use Rattle.flt_config.specs.declared.config.Config.{Config}
 use Rattle.flt_config.specs.declared.config.DidUse.{DidUse}
@@ -16,7 +16,7 @@ pub record ToldLife : Type 0 where
   pub base : Persist
   pub journal : List (Entry Op)
 
--- These texts tell this life, and have an answer for each call.
+-- These texts describe this life, and have an answer for each call.
 pub record TellsLife (dids : List DidUse) (texts : Texts) (told : ToldLife) : Type 0 where
   pub script : ScriptContent
   pub reads : script_of dids texts.script ≡ Ok script

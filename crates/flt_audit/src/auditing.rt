@@ -1,4 +1,4 @@
-//! What is told of a trace.
+//! What is reported about a trace.
 ghost use Rattle.std.specs.Prelude.{◌≡◌, ◌++◌, IfOk, Some, codes};
 ghost use Rattle.std.specs.Fmt.{decimal};
 ghost use Rattle.flt_did.specs.Table.{dids_of};
@@ -22,7 +22,7 @@ use std::alloc::{AllocError, Global};
 /// What came of the calls of a trace, made again.
 #[derive(Clone, Copy, Debug, PartialEq, Eq)]
 pub(crate) enum Audited {
-    /// The texts tell no life.
+    /// The texts describe no life.
     NoLife,
     /// Each answer is the one that is due.
     AllDue,
@@ -30,7 +30,7 @@ pub(crate) enum Audited {
     Differs(usize),
 }
 
-/// What is told where each of these calls has its due answer.
+/// What is reported where each of these calls has its due answer.
 fn yes(alloc: Global, calls: usize) -> Result<Verdict, AllocError>
     ensures { IfOk result (λ told. due_of told ≡ line_due 0 (codes "yes " ++ decimal calls)) }
 {
@@ -38,7 +38,7 @@ fn yes(alloc: Global, calls: usize) -> Result<Verdict, AllocError>
     Verdict::line(alloc, Status::Done, words.as_bytes())
 }
 
-/// What is told where the answer at this place is the first that is not due.
+/// What is reported where the answer at this place is the first that is not due.
 fn no(alloc: Global, place: usize) -> Result<Verdict, AllocError>
     ensures { IfOk result (λ told. due_of told ≡ line_due 13 (codes "no " ++ decimal place)) }
 {
@@ -77,7 +77,7 @@ fn judge_trace(
     }
 }
 
-/// What is told of the texts of a trace.
+/// What is reported about the texts of a trace.
 fn judge_texts(
     alloc: Global,
     trace: &Trace<'_>,
@@ -92,7 +92,7 @@ fn judge_texts(
     }
 }
 
-/// What is told of a value.
+/// What is reported about a value.
 fn judge_value(
     alloc: Global,
     value: &Value,
@@ -106,7 +106,7 @@ fn judge_value(
     }
 }
 
-/// What is told of bytes, by the value that they are.
+/// What is reported about bytes, by the value that they are.
 fn judge_any(alloc: Global, bytes: &[u8], dids: DidTable<DID_ROWS>) -> Result<Verdict, AllocError>
     ensures { IfOk result (λ verdict. IsAudited (dids_of dids) bytes.now (due_of verdict)) }
 {
@@ -126,7 +126,7 @@ struct Auditor {
 impl Judge for Auditor {
     ghost is_judged = { λ auditor. IsAudited (dids_of auditor.dids) };
 
-    /// What is told of bytes. A trace that stands as it is printed is read without a value, in a third of the time.
+    /// What is reported about bytes. A trace that is as it is printed is read without a value, in a third of the time.
     fn judge(self, alloc: Global, bytes: &[u8]) -> Result<Verdict, AllocError> {
         let mut scratch = Scratch::new(alloc);
         match read_line(alloc, bytes, &mut scratch)? {
@@ -137,7 +137,7 @@ impl Judge for Auditor {
 }
 
 /// Audits a trace: the calls of its journal are made again on a status machine that starts from its base, and each answer is compared
-/// with the machine's. It tells `yes` and the number of calls, or `no` and the first place whose answer is another, and answers the exit
+/// with the machine's. It writes `yes` and the number of calls, or `no` and the first place whose answer is another, and answers the exit
 /// status: 0 and 13 for these; 3 where the source failed; 4 in place of another where the sink did; 7 where memory ran out; 9 where
 /// more than 16,777,216 bytes came; 11 where they are no JSON; 12 where that is no trace of a life.
 pub fn audit<S: Source, K: Sink>(

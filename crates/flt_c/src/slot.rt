@@ -27,7 +27,7 @@ impl Model for Slot {
 }
 
 impl Slot {
-    /// The box that it stands for.
+    /// The box that it refers to.
     pub fn into_box(self) -> Box<Inner, Global>
         ensures { result.value ≡ self.value }
     {

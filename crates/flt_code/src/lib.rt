@@ -1,6 +1,6 @@
 //! The complement code of a sector's pages, the words that they hold, and the law of tearing.
 //!
-//! It stands on `flt_flash`, whose tearing the law is about. The layer above uses `seal`, `unseal`, `put_word` and
+//! It depends on `flt_flash`, whose tearing the law is about. The layer above uses `seal`, `unseal`, `put_word` and
 //! `get_word`, each exact, and `tearing`: a page torn between blank and a code word is no other code word. Read
 //! `specs/Seal.antt` first, then `specs/Word.antt`.
 #![tactic(auto)]

@@ -8,7 +8,7 @@ use crate::{
 };
 use arrayvec::ArrayVec;
 
-/// Puts the state of an event that was not tested for each event, in place of those that stand there.
+/// Puts the state of an event that was not tested for each event, in place of those that are there.
 #[inline(always)]
 fn put_untested(config: &ValidConfig, events: &mut ArrayVec<EventState, EVENTS>)
     ensures { events.new.items ≡ replicate (length config.now.events.items) start_state }

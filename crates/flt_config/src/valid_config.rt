@@ -6,6 +6,7 @@ ghost use Rattle.flt_config.specs.Check.{check_of, distinct_result, room_result}
 
 use crate::ranges::check_all_ranges;
 use crate::{CfgFault, Config, EVENTS, EventCfg};
+use arrayvec::ArrayVec;
 use std::marker::Model;
 
 /// A configuration that `check` accepted: its numbers are in range, its DTCs are distinct, and its
@@ -39,9 +40,35 @@ impl ValidConfig {
     pub fn twin(&self) -> ValidConfig
         ensures { result ≡ self.now }
     {
-        ValidConfig {
-            config: self.config.clone().unwrap(),
-        }
+        let mut config = Config {
+            id: self.config.id,
+            memory: self.config.memory,
+            pages: self.config.pages,
+            blocks: self.config.blocks,
+            events: ArrayVec::new(),
+        };
+        put_events(&self.config.events, &mut config.events);
+        ValidConfig { config }
+    }
+}
+
+/// A copy of this event.
+#[inline(always)]
+fn copy_of(event: &EventCfg) -> EventCfg
+    ensures { result ≡ event.now }
+{
+    event.clone().unwrap()
+}
+
+/// Puts copies of these events in place of those of a list. A list that is cloned as a whole is moved several times.
+#[inline(always)]
+fn put_events(events: &[EventCfg], out: &mut ArrayVec<EventCfg, EVENTS>)
+    requires { length events.now ≤ EVENTS }
+    ensures { out.new.items ≡ events.now }
+{
+    out.clear();
+    for event in events {
+        out.push(copy_of(event));
     }
 }
 

@@ -1,4 +1,4 @@
--- What follows from a unit that stands, and how a call changes it.
+-- What follows from a unit that stands for its past, and how a call changes it.
 use Rattle.std.proofs.Common.{◌≡◌, ℕ, ◌<◌, List, [], ◌∷◌, length, get_or, arith, refl, sym, ap, subst, ⊎_elim}
 use Rattle.std.specs.Prelude.{unwrap_or}
 use Rattle.flt_config.specs.Durable.{start_state}

@@ -3,7 +3,7 @@ use Rattle.std.specs.Prelude.{ℕ, List}
 use Rattle.flt_model.specs.Reply.{Reply, map_reply}
 use Rattle.flt_model.specs.declared.call.ReplyOf.{ReplyOf}
 
--- An answer whose response stands elsewhere.
+-- An answer whose response is kept elsewhere.
 abbrev pub ReplyKind : Type 0
 ReplyKind = ReplyOf (Unit {0})
 

@@ -83,7 +83,7 @@ IsNegative _ = ⊥
 
 -- ---- The effect of a call on a unit, in words for contracts.
 
--- It stands before the call, and stands with one more call after it.
+-- If it stands for some calls before the call, it stands for them and the call after it.
 abbrev pub Takes : Op → UnitView → UnitView → Type 0
 Takes op old new = (life : Start) (past : History) → Stands life past old → Stands life (op ∷ past) new
 

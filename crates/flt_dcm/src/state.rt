@@ -22,7 +22,10 @@ ghost use Rattle.flt_dcm.specs.ReplyKind.{reply_with};
 use crate::response::{ALL_DTCS, UnknownDtc, put_positive};
 use crate::session::Session;
 use arrayvec::ArrayVec;
-use flt_config::{EVENTS, EventState, Persist, ValidConfig, initial};
+use flt_config::{
+    Condition, EVENTS, EventState, OperationCycle, Persist, SignalIndex, Tester, ValidConfig,
+    initial,
+};
 use flt_dem::DemState;
 use flt_did::{DID_ROWS, DidTable};
 use flt_model::{Op, REQUEST, Reply, ReplyOf, Report};
@@ -239,15 +242,14 @@ impl UnitState {
         self.sessions = ticked_sessions(self.sessions, ticks);
     }
 
-    /// Takes the request of a tester, of the number 0 to 3, and writes the response, replacing what `out` holds.
+    /// Takes the request of a tester, and writes the response, replacing what `out` holds.
     fn request(
         &mut self,
-        tester: u8,
+        tester: Tester,
         bytes: &ArrayVec<u8, REQUEST>,
         out: &mut ArrayVec<u8, RESPONSE>,
     ) -> ReplyKind
-        requires tester { tester < 4 }
-        requires some { 0 < length bytes.now.items }
+        requires { 0 < length bytes.now.items }
         ensures config { self.new.dem.durable.config ≡ self.old.dem.durable.config }
         ensures base { self.new.base ≡ self.old.base }
         ensures stands { Takes (ops.Request tester bytes.now) self.old self.new }
@@ -257,7 +259,7 @@ impl UnitState {
     {
         answer_request(
             &mut self.dem,
-            &mut self.sessions[tester as usize],
+            &mut self.sessions[tester.get() as usize],
             bytes,
             out,
         )
@@ -277,14 +279,14 @@ impl UnitState {
     {
         match op {
             Op::Signal { index, value } => {
-                self.dem.signal(*index, *value);
+                self.dem.signal(SignalIndex::new(*index), *value);
                 ReplyKind::Taken
             }
             Op::Enable {
                 condition,
                 fulfilled,
             } => {
-                self.dem.enable(*condition, *fulfilled);
+                self.dem.enable(Condition::new(*condition), *fulfilled);
                 ReplyKind::Taken
             }
             Op::Report { event, report } => self.report(dids, *event, *report),
@@ -293,10 +295,10 @@ impl UnitState {
                 ReplyKind::Taken
             }
             Op::Cycle { cycle } => {
-                self.dem.cycle(*cycle);
+                self.dem.cycle(OperationCycle::new(*cycle));
                 ReplyKind::Taken
             }
-            Op::Request { tester, bytes } => self.request(*tester, bytes, response),
+            Op::Request { tester, bytes } => self.request(Tester::new(*tester), bytes, response),
             Op::Show { event } => ReplyKind::Shown(self.dem.show(*event)),
             Op::Snapshot => ReplyKind::Taken,
             Op::Saved { .. } => ReplyKind::Taken,

@@ -1,4 +1,4 @@
-//! Debouncing of one event's reports, by a counter or by time (AUTOSAR Dem in outline). It stands on the
+//! Debouncing of one event's reports, by a counter or by time (AUTOSAR Dem in outline). It depends on the
 //! definitions of `flt_model`. The layer above uses `report` and `tick`: if a state is the one that the
 //! happenings to its event lead to, it is so after one more happening, and the answer is what that
 //! qualifies. They also specify one step from any state (`specs/Step`). Read `specs/Debounce` of `flt_model` first.

@@ -57,8 +57,8 @@ left_more done held last is left =
     let apart : (get_or kept k d).event ≢ done = λ same. let own = eq-eqb (get_or kept k d).event done same in absurd (cc (ap not own, passes)) in
     omega (arith, above, apart))
 
--- The events below a number are cleared, and the memory was emptied first. The entries that are held stand for those that a memory would
--- have that gave up one entry with each event: once each event is cleared they are none, as the memory's are.
+-- The events below a number are cleared, and the memory was emptied first. The entries that are held take the place of those that a
+-- memory would have that gave up one entry with each event: once each event is cleared they are none, as the memory's are.
 pub record ClearedBelow (done : ℕ) (before now : EventsView) : Type 0 where
   pub held : Memory
   pub stands : (life : Start) (past : History) (tester : ℕ) (bytes : ArrayVec ℕ) → cleared_dtc (ops.Request tester bytes) ≡ Some all_dtcs →

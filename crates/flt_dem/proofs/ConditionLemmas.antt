@@ -6,6 +6,7 @@ use Rattle.std.specs.Int.{bit_at}
 use Rattle.std.specs.Int.Bits.{and_le_l}
 use Rattle.std.proofs.Math.ListN.{length-set}
 use Rattle.std.proofs.lemmas.Bool.{cases_Bool, cases_eq, and_from, eq-eqb, eqb-true, false_from_ne_true}
+use Rattle.std.proofs.lemmas.Bool.Decides.{nat_tests}
 use Rattle.std.proofs.lemmas.List.{same_lists}
 use Rattle.std.proofs.lemmas.List.Sums.{AllPass-from_list_all}
 use Rattle.std.proofs.lemmas.Nat.Bits.{bit_at-lt, bit_at_and, bit_at-zero, same_from_bits_below}
@@ -48,17 +49,17 @@ set_where old new condition fulfilled within is others =
         ]
 
 -- The conditions that the calls so far say, after one more.
-pub set_conditions : (condition : ℕ) (fulfilled : Bool) (past : History) → condition < 8 →
+pub set_conditions : (condition : ℕ) (fulfilled : Bool) (past : History) →
     slice_set (conditions past) condition fulfilled ≡ conditions (ops.Enable condition fulfilled ∷ past)
-set_conditions zero fulfilled past h = refl
-set_conditions (suc zero) fulfilled past h = refl
-set_conditions (suc (suc zero)) fulfilled past h = refl
-set_conditions (suc (suc (suc zero))) fulfilled past h = refl
-set_conditions (suc (suc (suc (suc zero)))) fulfilled past h = refl
-set_conditions (suc (suc (suc (suc (suc zero))))) fulfilled past h = refl
-set_conditions (suc (suc (suc (suc (suc (suc zero)))))) fulfilled past h = refl
-set_conditions (suc (suc (suc (suc (suc (suc (suc zero))))))) fulfilled past h = refl
-set_conditions (suc (suc (suc (suc (suc (suc (suc (suc condition)))))))) fulfilled past h = absurd (omega arith)
+set_conditions zero fulfilled past = refl
+set_conditions (suc zero) fulfilled past = refl
+set_conditions (suc (suc zero)) fulfilled past = refl
+set_conditions (suc (suc (suc zero))) fulfilled past = refl
+set_conditions (suc (suc (suc (suc zero)))) fulfilled past = refl
+set_conditions (suc (suc (suc (suc (suc zero))))) fulfilled past = refl
+set_conditions (suc (suc (suc (suc (suc (suc zero)))))) fulfilled past = refl
+set_conditions (suc (suc (suc (suc (suc (suc (suc zero))))))) fulfilled past = refl
+set_conditions (suc (suc (suc (suc (suc (suc (suc (suc condition)))))))) fulfilled past = grind (arith, nat_tests)
 
 -- ---- a test of all
 

@@ -1,5 +1,6 @@
 -- What a call does to the started cycles, to the signals and to events at rest.
 use Rattle.std.proofs.Common.{◌≡◌, ◌∙◌, ℕ, zero, suc, ◌<◌, Bool, true, false, not, List, [], ◌∷◌, map, length, get_or, Option, Some, unwrap_or, arith, refl, sym, ap, subst}
+use Rattle.std.proofs.lemmas.Bool.Decides.{nat_tests}
 use Rattle.std.proofs.lemmas.List.{length-map}
 use Rattle.std.proofs.lemmas.Option.{get_or_from_slice_get, slice_get-get_or, slice_get-map, slice_get_within, unwrap_or-slice_get}
 use Rattle.std.specs.Prelude.{slice_get, slice_set, option_map, is_none}
@@ -25,16 +26,16 @@ use Rattle.flt_dem.proofs.PartLemmas.{ignored_report}
 
 -- ---- signals
 
-pub set_signals : (index value : ℕ) (past : History) → index < 8 → slice_set (signals past) index value ≡ signals (ops.Signal index value ∷ past)
-set_signals zero value past h = refl
-set_signals (suc zero) value past h = refl
-set_signals (suc (suc zero)) value past h = refl
-set_signals (suc (suc (suc zero))) value past h = refl
-set_signals (suc (suc (suc (suc zero)))) value past h = refl
-set_signals (suc (suc (suc (suc (suc zero))))) value past h = refl
-set_signals (suc (suc (suc (suc (suc (suc zero)))))) value past h = refl
-set_signals (suc (suc (suc (suc (suc (suc (suc zero))))))) value past h = refl
-set_signals (suc (suc (suc (suc (suc (suc (suc (suc index)))))))) value past h = absurd (omega arith)
+pub set_signals : (index value : ℕ) (past : History) → slice_set (signals past) index value ≡ signals (ops.Signal index value ∷ past)
+set_signals zero value past = refl
+set_signals (suc zero) value past = refl
+set_signals (suc (suc zero)) value past = refl
+set_signals (suc (suc (suc zero))) value past = refl
+set_signals (suc (suc (suc (suc zero)))) value past = refl
+set_signals (suc (suc (suc (suc (suc zero))))) value past = refl
+set_signals (suc (suc (suc (suc (suc (suc zero)))))) value past = refl
+set_signals (suc (suc (suc (suc (suc (suc (suc zero))))))) value past = refl
+set_signals (suc (suc (suc (suc (suc (suc (suc (suc index)))))))) value past = grind (arith, nat_tests)
 
 -- ---- at rest
 
@@ -92,7 +93,7 @@ cycle_below config event valid within =
     let below = (valid.events event no_event within).cycle in
     rw (unwrap_or-slice_get config.events.items event no_event) (omega (arith, below))
 
--- Whether the cycle of an event was started is read where the event's cycle stands.
+-- Whether the cycle of an event was started is read at the event's cycle.
 cycle_read : (manager : Manager) (event : ℕ) (rules : EventCfg) → slice_get manager.durable.config.events.items event ≡ Some rules →
     is_cycle_started manager event ≡ get_or manager.started rules.cycle false
 cycle_read manager event rules found =
@@ -106,7 +107,7 @@ cycle_stands life past manager event valid within s =
     ap (λ o. unwrap_or o false) (s.started cycle (cycle_below manager.durable.config event valid within))
     ∙ ap (λ k. is_started (unwrap_or (slice_get k.events.items event) no_event).cycle past) (sym s.events.durable_stands.config)
 
--- Why a report is ignored is read where the event's cycle and what it needs stand.
+-- Why a report is ignored is read at the event's cycle and at what the event needs.
 pub cause_read : (manager : Manager) (event : ℕ) (rules : EventCfg) (setting met : Bool) → slice_get manager.durable.config.events.items event ≡ Some rules → met ≡ are_met rules.needs manager.conditions →
     cause_of (readiness_at setting manager event) ≡ cause_of (seen setting (get_or manager.started rules.cycle false) met)
 cause_read manager event rules setting met found met_is =

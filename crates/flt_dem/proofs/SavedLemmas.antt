@@ -1,4 +1,4 @@
--- What is read of states and entries that stand.
+-- What is read of states and entries that stand for a base and marks.
 use Rattle.std.proofs.Common.{◌≡◌, ◌∙◌, ℕ, zero, suc, ◌<◌, ◌≤◌, nat_eq, List, [], ◌∷◌, ◌++◌, map, length, take, Some, arith, refl, sym, ap, inl, inr, eqb-true}
 use Rattle.std.proofs.Math.Seq.{take-suc}
 use Rattle.std.proofs.lemmas.Bool.{cases_Bool}

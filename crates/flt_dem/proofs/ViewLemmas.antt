@@ -16,7 +16,7 @@ use Rattle.flt_dem.specs.Manager.{Manager, StandsFor}
 use Rattle.flt_dem.specs.View.{rules_of, detection_counter_of, event_seen, noted_at, manager_view}
 use Rattle.flt_dem.proofs.SavedLemmas.{entry_found}
 
--- What is read of a list at a place within it, whatever stands past its end.
+-- What is read of a list at a place within it, whatever the defaults past its end are.
 pub read_within : {A : Type 0} (xs : List A) (place : ℕ) (d e : A) → place < length xs → get_or xs place d ≡ unwrap_or (slice_get xs place) e
 read_within xs place d e within = get_or_default xs place d e within ∙ sym (unwrap_or-slice_get xs place e)
 

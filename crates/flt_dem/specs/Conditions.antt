@@ -1,4 +1,4 @@
--- The enable conditions, told by those that are not fulfilled.
+-- The enable conditions, given by those that are not fulfilled.
 use Rattle.std.specs.Prelude.{ℕ, Bool, not, List, [], ◌∷◌, map}
 use Rattle.flt_model.specs.Byte.{is_bit_set}
 

@@ -20,7 +20,7 @@ use Rattle.flt_model.specs.Answer.{view}
 use Rattle.flt_dem.specs.Manager.{Manager, StandsFor}
 use Rattle.flt_dem.specs.View.{manager_view}
 
--- An event is stored behind its failure.
+-- An event is stored after its failure.
 pub record Storing (life : Start) (event : ℕ) (signals : List ℕ) (before : Trace) (states : List EventState) (old new : Memory) (outcome : Stored) : Type 0 where
   pub configured : event < count life
   pub entered : enters (base_of life event) (marks_of event before) ≡ true
@@ -50,7 +50,7 @@ IsIdle life ops.Snapshot = Unit {0}
 IsIdle life (ops.Saved generation) = Unit {0}
 IsIdle life _ = ⊥
 
--- A manager stands for such a call more.
+-- A manager that stands for some calls stands for them and such a call too.
 abbrev pub IdleCallsChangeNothing : Type 0
 IdleCallsChangeNothing = (life : Start) (past : History) (manager : Manager) (op : Op) → IsIdle life op → StandsFor life past manager
     → StandsFor life (op ∷ past) manager

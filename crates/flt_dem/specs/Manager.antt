@@ -75,11 +75,11 @@ KeepsOtherCycles config cycle old new = (event : ℕ) → IsOfOtherCycle config 
 
 -- ---- What a call makes of a manager, in words for contracts.
 
--- It stands before the call, and stands with the call more after.
+-- If it stands for some calls before the call, it stands for them and the call after it.
 abbrev pub ManagerTakes : Op → Manager → Manager → Type 0
 ManagerTakes op old new = (life : Start) (past : History) → StandsFor life past old → StandsFor life (op ∷ past) new
 
--- It does where the first tells whether the setting is on.
+-- The same, where the first argument says whether the setting is on.
 abbrev pub TakesUnder : Bool → Op → Manager → Manager → Type 0
 TakesUnder setting op old new =
     (life : Start) (past : History) → setting ≡ not (is_setting_off past) → StandsFor life past old → StandsFor life (op ∷ past) new
@@ -98,7 +98,7 @@ IsValueOf told manager value = (life : Start) (past : History) → StandsFor lif
 abbrev pub ManagerAnswers : Op → Manager → Reply → Type 0
 ManagerAnswers op manager reply = (life : Start) (past : History) → StandsFor life past manager → reply ≡ answer life past op
 
--- It is where the first tells whether the setting is on.
+-- The same, where the first argument says whether the setting is on.
 abbrev pub AnswersUnder : Bool → Op → Manager → Reply → Type 0
 AnswersUnder setting op manager reply =
     (life : Start) (past : History) → setting ≡ not (is_setting_off past) → StandsFor life past manager → reply ≡ answer life past op

@@ -1,4 +1,4 @@
--- What the durable part of the event manager stands for: a base and the marks of all events behind it.
+-- What the durable part of the event manager stands for: a base and the marks of all events after it.
 use Rattle.std.specs.Prelude.{◌≡◌, ◌≢◌, ℕ, ◌<◌, List, ◌∷◌, length, Some, slice_get, option_map, unwrap_or}
 use Rattle.flt_config.specs.declared.persist.EventState.{EventState}
 use Rattle.flt_model.specs.Start.{Start, count}
@@ -57,7 +57,7 @@ abbrev pub IsNotDisplaced : ℕ → Stored → Type 0
 IsNotDisplaced event (outcomes.Displaced other) = event ≢ other
 IsNotDisplaced event _ = Unit {0}
 
--- The durable part stands before, and stands with more marks after.
+-- If the durable part stands for a base and marks before, it stands for them and more marks after.
 abbrev pub Bears : (Start → Trace → Trace) → DurablePartView → DurablePartView → Type 0
 Bears more old new = (life : Start) (marks : Trace) → DurablePartStands life marks old → DurablePartStands life (more life marks) new
 

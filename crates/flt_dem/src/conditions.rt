@@ -1,8 +1,9 @@
 //! The enable conditions of the vehicle.
 
-ghost use Rattle.std.specs.Prelude.{◌≡◌, ◌<◌, slice_set, [], false};
+ghost use Rattle.std.specs.Prelude.{◌≡◌, slice_set, [], false};
 ghost use Rattle.flt_model.specs.Happening.{conditions, are_met};
 
+use flt_config::Condition;
 use std::marker::Model;
 
 /// Which of the eight enable conditions are fulfilled.
@@ -29,12 +30,11 @@ impl Conditions {
         Conditions { missing: 0 }
     }
 
-    /// Notes whether the condition with this number, from 0 to 7, is fulfilled, and leaves the others.
-    pub fn set(&mut self, condition: u8, fulfilled: bool)
-        requires { condition < 8 }
+    /// Notes whether the condition with this number is fulfilled, and leaves the others.
+    pub fn set(&mut self, condition: Condition, fulfilled: bool)
         ensures { self.new ≡ slice_set self.old condition fulfilled }
     {
-        let bit = 1u8 << condition;
+        let bit = 1u8 << condition.get();
         if fulfilled {
             self.missing &= !bit;
         } else {

@@ -18,7 +18,7 @@ ghost use Rattle.flt_dem.specs.Manager.{ManagerTakes, TakesUnder, TakesClear, Is
 
 use crate::notes::Which;
 use crate::state::DemState;
-use flt_config::{EntryState, Persist, ValidConfig};
+use flt_config::{Condition, EntryState, OperationCycle, Persist, SignalIndex, ValidConfig};
 use flt_did::{DID_ROWS, DidTable};
 use flt_model::{Cause, Report, Shown};
 
@@ -84,7 +84,7 @@ impl Dem {
         ensures value { manager_of self.new ≡ record (manager_of self.old) { signals = slice_set (manager_of self.old).signals index value } }
         ensures stands { ManagerTakes (ops.Signal index value) (manager_of self.old) (manager_of self.new) }
     {
-        self.state.signal(index, value);
+        self.state.signal(SignalIndex::new(index), value);
     }
 
     /// Notes whether an enable condition, of the number 0 to 7, is fulfilled.
@@ -94,10 +94,10 @@ impl Dem {
         ensures value { manager_of self.new ≡ record (manager_of self.old) { conditions = slice_set (manager_of self.old).conditions condition fulfilled } }
         ensures stands { ManagerTakes (ops.Enable condition fulfilled) (manager_of self.old) (manager_of self.new) }
     {
-        self.state.enable(condition, fulfilled);
+        self.state.enable(Condition::new(condition), fulfilled);
     }
 
-    /// Takes a monitor's report of an event, in view of whether the setting is on. The answer tells why
+    /// Takes a monitor's report of an event, in view of whether the setting is on. The answer says why
     /// it is ignored: the setting is off, else the event's cycle was not started since power-up, or else
     /// an enable condition that the event needs is not fulfilled; then nothing changes. A result that it
     /// qualifies changes the event's state, the entries and the notes.
@@ -135,7 +135,7 @@ impl Dem {
         ensures stands { ManagerTakes (ops.Cycle cycle) (manager_of self.old) (manager_of self.new) }
         ensures others { (event : ℕ) → IsOfOtherCycle (manager_config self.old) cycle event → KeepsEvent event (manager_of self.old) (manager_of self.new) }
     {
-        self.state.cycle(cycle);
+        self.state.cycle(OperationCycle::new(cycle));
     }
 
     /// Clears all events, as a tester's request for the group of all DTCs does (ISO 14229-1, service

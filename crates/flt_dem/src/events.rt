@@ -114,7 +114,7 @@ impl Events {
         self.durable.take(dids, signals, event, qualified);
     }
 
-    /// Lets ticks go by for one event, with the setting on. An event that needs a condition that is not fulfilled stands still.
+    /// Lets ticks go by for one event, with the setting on. An event that needs a condition that is not fulfilled is left as it is.
     fn tick_one(
         &mut self,
         dids: &DidTable<DID_ROWS>,

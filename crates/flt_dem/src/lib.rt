@@ -1,8 +1,8 @@
 //! The event manager (AUTOSAR Dem in outline): what reports, ticks and operation cycles make of the
-//! events, of the fault memory and of the noted events. Stands on `flt_debounce`, `flt_status`,
+//! events, of the fault memory and of the noted events. It depends on `flt_debounce`, `flt_status`,
 //! `flt_memory` and `flt_did`. The layer above uses the calls of `DemState`, or of `Dem`, which keeps the
-//! table of data identifiers beside it: where it stands for a base and the calls so far, it stands
-//! for them and one call more, and gives the answer that is written down. Read `specs/Manager` first.
+//! table of data identifiers beside it: if a manager stands for a base and the calls so far, then after a
+//! call it stands for them and that call, and its answer is the specified one. Read `specs/Manager` first.
 #![tactic(auto)]
 
 mod conditions;

@@ -39,7 +39,7 @@ impl Notes {
         }
     }
 
-    /// The notes after a failure of an event, of which the mark tells what it changed.
+    /// The notes after a failure of an event, of which the mark says what it changed.
     pub fn after_failure(self, event: u16, mark: FailedMark) -> Notes
         ensures first_failed { result.first_failed ≡ noted_first_after mark.entered event self.first_failed }
         ensures first_confirmed { result.first_confirmed ≡ noted_first_after mark.confirmed event self.first_confirmed }

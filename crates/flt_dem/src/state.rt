@@ -19,7 +19,9 @@ ghost use Rattle.flt_dem.specs.Manager.{ManagerTakes, TakesUnder, TakesClear, Is
 use crate::conditions::Conditions;
 use crate::events::Events;
 use crate::notes::Which;
-use flt_config::{EVENTS, EntryState, EventState, Persist, ValidConfig};
+use flt_config::{
+    Condition, EVENTS, EntryState, EventState, OperationCycle, Persist, SignalIndex, ValidConfig,
+};
 use flt_did::{DID_ROWS, DidTable, Signals};
 use flt_model::{Cause, Report, Shown};
 use std::marker::Model;
@@ -91,18 +93,16 @@ impl DemState {
         self.events.durable().valid_config()
     }
 
-    /// Sets a signal, of the number 0 to 7.
-    pub fn signal(&mut self, index: u8, value: u16)
-        requires { index < 8 }
+    /// Sets the signal with this number.
+    pub fn signal(&mut self, index: SignalIndex, value: u16)
         ensures value { self.new ≡ record self.old { signals = slice_set self.old.signals index value } }
         ensures stands { ManagerTakes (ops.Signal index value) self.old self.new }
     {
         self.signals.set(index, value);
     }
 
-    /// Notes whether an enable condition, of the number 0 to 7, is fulfilled.
-    pub fn enable(&mut self, condition: u8, fulfilled: bool)
-        requires { condition < 8 }
+    /// Notes whether the enable condition with this number is fulfilled.
+    pub fn enable(&mut self, condition: Condition, fulfilled: bool)
         ensures value { self.new ≡ record self.old { conditions = slice_set self.old.conditions condition fulfilled } }
         ensures stands { ManagerTakes (ops.Enable condition fulfilled) self.old self.new }
     {
@@ -127,7 +127,7 @@ impl DemState {
         }
     }
 
-    /// Takes a monitor's report of an event, in view of whether the setting is on. The answer tells why
+    /// Takes a monitor's report of an event, in view of whether the setting is on. The answer says why
     /// it is ignored: the setting is off, else the event's cycle was not started since power-up, or else
     /// an enable condition that the event needs is not fulfilled; then nothing changes. A result that it
     /// qualifies changes the event's state, the entries and the notes.
@@ -171,16 +171,15 @@ impl DemState {
         }
     }
 
-    /// Ends an operation cycle, of the number 0 to 3, for each of its events in order of number, and
-    /// starts the next. An event that ages by it gives up its entry.
-    pub fn cycle(&mut self, cycle: u8)
-        requires { cycle < 4 }
+    /// Ends an operation cycle for each of its events in order of number, and starts the next. An event
+    /// that ages by it gives up its entry.
+    pub fn cycle(&mut self, cycle: OperationCycle)
         ensures config { self.new.durable.config ≡ self.old.durable.config }
         ensures stands { ManagerTakes (ops.Cycle cycle) self.old self.new }
         ensures others { (event : ℕ) → IsOfOtherCycle self.old.durable.config cycle event → KeepsEvent event self.old self.new }
     {
-        self.events.end_cycle(cycle);
-        self.started[cycle as usize] = true;
+        self.events.end_cycle(cycle.get());
+        self.started[cycle.get() as usize] = true;
     }
 
     /// Clears all events, as a tester's request for the group of all DTCs does (ISO 14229-1, service

@@ -1,4 +1,4 @@
-//! The rows of a table that stand in optional places, found by their keys.
+//! The rows of a table that are in optional places, found by their keys.
 ghost use Rattle.std.specs.Prelude.{◌≡◌, ℕ, find, option_copied, IfSome};
 ghost use Rattle.flt_did.specs.Keyed.{filled, has_key};
 

@@ -1,5 +1,5 @@
 //! Data identifiers (DIDs): stored functions of the eight signals of the vehicle, and the frames that
-//! they give. It stands on the definitions of frames in `flt_model`, `specs/Frame`. The layer above uses
+//! they give. It depends on `flt_model`, whose `specs/Frame` defines frames. The layer above uses
 //! `DidTable::frame`: for any table that was filled row by row, the frame of a list of uses is the
 //! specified one. The programs use one table, which `program_table!` makes. Read `specs/Table` first.
 #![tactic(auto)]

@@ -1,6 +1,8 @@
 //! The signals of the vehicle.
 ghost use Rattle.std.specs.Prelude.{◌≡◌, ◌<◌, length, All, replicate, slice_set};
 
+use flt_config::SignalIndex;
+
 /// The values of the eight signals, each from 0 to 65535 (this profile).
 #[derive(Clone, Copy, PartialEq, Eq, Debug)]
 pub struct Signals {
@@ -18,11 +20,10 @@ impl Signals {
         Signals { values: [0; 8] }
     }
 
-    /// Sets the signal with this number, from 0 to 7, and leaves the others.
-    pub fn set(&mut self, index: u8, value: u16)
-        requires { index < 8 }
+    /// Sets the signal with this number, and leaves the others.
+    pub fn set(&mut self, index: SignalIndex, value: u16)
         ensures { self.new.values ≡ slice_set self.old.values index value }
     {
-        self.values[index as usize] = value;
+        self.values[index.get() as usize] = value;
     }
 }

@@ -6,7 +6,7 @@ use Rattle.flt_flash.specs.Calls.{CostsAtMost, MountCosts, ReadCosts, switch_cos
 use Rattle.flt_fee.specs.Costs.{ErasesAtMost, StoreCosts}
 use Rattle.flt_fee.specs.Wear.{IsEven}
 
--- A driver whose device tells these counts of operations and of erases. It is not stale, and its one block 8 has 96 bytes.
+-- A driver whose device gives these counts of operations and of erases. It is not stale, and its one block 8 has 96 bytes.
 abbrev pub counting : Option ℕ → Option ℕ → BlocksState
 counting operations erases = record {
   numbers = 8 ∷ [];
@@ -28,14 +28,14 @@ counting operations erases = record {
   };
 }
 
--- So many operations and erases were made.
+-- This many operations and erases were made.
 abbrev pub made : ℕ → ℕ → BlocksState
 made operations erases = counting (Some operations) (Some erases)
 
 -- ---- operations and erases
 
--- Ten operations lead from 100 to 110 at most, and where both counts are told no more than that many are made. A count that was not told
--- before is not told behind.
+-- Ten operations lead from 100 to 110 at most, and where both counts are known no more than that many are made. A count that was not known
+-- before is not known after.
 pub record OperationsAtMost : Type 0 where
   pub told : (limit earlier later : ℕ) (before after : BlocksState) → before.device.operations ≡ Some earlier → after.device.operations ≡ Some later
       → CostsAtMost limit before after ↔ (later ≤ earlier + limit)
@@ -70,8 +70,8 @@ pub record ReadsOfBytes : Type 0 where
   pub within : ReadCosts (made 100 0) (made 103 0) 8
   pub beyond : ReadCosts (made 100 0) (made 104 0) 8 → ⊥
 
--- A record of 96 bytes behind the log takes five operations and no erase. With a switch it takes one erase and 18 operations at most: two gates
--- and the erase, a read and a write of each of the five pages that are copied, and five for the record.
+-- A record of 96 bytes after the log takes five operations and no erase. With a switch it takes one erase and 18 operations at most: two
+-- gates and the erase, a read and a write of each of the five pages that are copied, and five for the record.
 pub record StoresOfBytes : Type 0 where
   pub behind : StoreCosts false (made 100 7) (made 105 7) 96
   pub behind_beyond : StoreCosts false (made 100 7) (made 106 7) 96 → ⊥
@@ -82,7 +82,7 @@ pub record StoresOfBytes : Type 0 where
 
 -- ---- wear
 
--- Whether the sectors wore evenly after so many erases of sector 0 and of sector 1, where this one is the current sector.
+-- Whether the sectors wore evenly after this many erases of sector 0 and of sector 1, where this one is the current sector.
 abbrev pub IsEvenAt : ℕ → ℕ → ℕ → Type 0
 IsEvenAt sector first second = IsEven (Ok (Some (record { sector = sector; sequence = 1 }))) (first ∷ second ∷ [])
 

@@ -32,7 +32,7 @@ long_gate = record { block = 0x0102; length = 128; valid = true; sequence = 0x03
 abbrev pub no_bytes : Gate
 no_bytes = record { block = 0x0102; length = 0; valid = false; sequence = 0x03040506 }
 
--- Bytes of a gate: its tag, its kind, the lower byte of its length and that of its number, and the byte behind them.
+-- Bytes of a gate: its tag, its kind, the lower byte of its length and that of its number, and the byte after them.
 abbrev pub of_block_8 : ℕ → ℕ → ℕ → ℕ → ℕ → List ℕ
 of_block_8 tag kind count sequence filler =
     tag ∷ kind ∷ 0x00 ∷ 0x08 ∷ 0x00 ∷ count ∷ 0x00 ∷ 0x00 ∷ 0x00 ∷ sequence ∷ filler ∷ replicate 5 0x00
@@ -91,7 +91,7 @@ PlacesHold = map (value_in (8 ∷ 9 ∷ []) two_blocks) (8 ∷ 9 ∷ []) ≡ byt
 -- ---- damage
 
 -- Place 1 is judged as place 0 is: the gate of another block and a code word that is no gate are damage there, and so is a gate of number 0 at
--- either place. Each is told by the place and the position of its block. A newer place 0 is no damage.
+-- either place. Each is reported by the place and the position of its block. A newer place 0 is no damage.
 pub record DamageOfPlaces : Type 0 where
   pub second_place : map damage
       (gates (written_unit 8 1) (written_unit 9 2) spoiled_unit spoiled_unit

@@ -15,25 +15,25 @@ use std::process::Abort;
 #[derive(Clone, Copy)]
 pub enum Step {
     Mount(Result<(), BlockFault>),
-    // So many bytes of one value are written.
+    // This many bytes of one value are written.
     Write(u16, usize, u8, Result<(), BlockFault>),
-    // Block 8 is given one byte, so many times.
+    // Block 8 is given one byte, this many times.
     Fill(u8),
     Invalidate(u16, Result<(), BlockFault>),
-    // A read finds bytes that are all this one, and leaves the place behind them as it was. The driver then tells the same without a read.
+    // A read finds bytes that are all this one, and leaves the place after them as it was. The driver then says the same without a read.
     Read(u16, Result<Found, BlockFault>, u8),
     // Block 9 can be read, and then the sequence numbers are used up or not.
     Spent(bool),
     Arm(Arm),
     Restart,
-    // So often the power may come back, and so many arms stand.
+    // This often the power may come back, and this many arms remain.
     Bench(u16, u8),
 }
 
 /// The byte of a place into which nothing was read.
 const UNREAD: u8 = 0xee;
 
-/// Whether so many of the bytes are this one, and those behind them were not read.
+/// Whether this many of the bytes are this one, and those after them were not read.
 fn are_read(bytes: &[u8; 128], count: usize, byte: u8) -> bool {
     for (at, found) in bytes.iter().enumerate() {
         let wanted = if at < count { byte } else { UNREAD };
@@ -99,7 +99,7 @@ fn writes<B: Blocks>(
     }
 }
 
-/// Writes one byte to block 8, so many times.
+/// Writes one byte to block 8, this many times.
 fn fill<B: Blocks>(driver: &mut B, times: u8) -> Result<(), BlockFault>
     requires { Contains (B.state driver.old).numbers 8 }
     ensures { (B.state driver.new).numbers ≡ (B.state driver.old).numbers }

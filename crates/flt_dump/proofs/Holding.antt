@@ -49,7 +49,7 @@ module _ (c : Config) (image : List (List (List ℕ))) (before after : BlocksSta
       ap (λ mark. Err (OtherConfig found mark)) refuses.1 ∙ sym (ap (number_told c) (judged_is (Err (other found)) refuses.0))
   told_fault SequenceSpent refuses other_fault = absurd (other_fault refl)
 
-  -- What was judged is told, with the number of what was found.
+  -- What was judged is reported, with the number of what was found.
   pub told_judged : (judged : Result Restored StartFault) (told : Result ℕ StartFault) (state : Persist) (Counts : Restored → ℕ → Type 0)
       → ((found : Restored) (number : ℕ) → Counts found number → number ≡ copy_generation found.commit)
       → MatchResult judged (λ found. IsOkAnd told (Counts found)) (λ fault. told ≡ Err fault)

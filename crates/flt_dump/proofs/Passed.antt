@@ -24,11 +24,11 @@ is_feed byte = byte == 10
 abbrev pub ended : List ℕ → List ℕ
 ended part = part ++ 10 ∷ []
 
--- The place behind so many.
+-- The place after this many.
 abbrev pub shifted : ℕ → Option ℕ → Option ℕ
 shifted count place = option_map (λ k. count + k) place
 
--- So many lines take the bytes up to here.
+-- This many lines take the bytes up to here.
 pub record Passed (bytes : List ℕ) (from before : ℕ) : Type 0 where
   pub parts : List (List ℕ)
   pub count : length parts ≡ before
@@ -163,6 +163,6 @@ passed_none bytes = record {
     unshifted None = refl
     unshifted (Some k) = ap Some (omega arith)
 
--- As many lines stand before the line as a script may have bytes, at most.
+-- At most as many lines are before the line as a script may have bytes.
 pub few_lines : (bytes : List ℕ) (image : ImageLine) → IsImageLine bytes image → length (take image.from bytes) ≤ 1048576 → image.before ≤ 1048576
 few_lines bytes image is short = omega (arith, is.small, is.from, length-take image.from bytes, short)

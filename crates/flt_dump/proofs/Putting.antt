@@ -17,7 +17,7 @@ use Rattle.flt_dump.specs.Listed.{IsListed}
 abbrev pub entry_at : ℕ → ℕ → ℕ → Bool → Bool → Entry
 entry_at page block length valid complete = record { page = page; block = block; length = length; valid = valid; complete = complete }
 
--- The records begin at this page or behind it, and so does the end where there is none.
+-- The records begin at this page or after it, and so does the end where there is none.
 abbrev Begins : ℕ → List Entry → ℕ → Type 0
 Begins page [] end = page ≤ end
 Begins page (entry ∷ entries) end = page ≤ entry.page
@@ -72,7 +72,7 @@ module _ (used : ℕ) (numbers : List ℕ) (pages : List (List ℕ)) where
       by_item later (Ok (Kept block length valid complete)) = omega arith
       by_item later (Err fault) = omega arith
 
-  -- What was put so far and what is to be put from this page on are the lines of the log behind what stood before.
+  -- What was put so far and what is to be put from this page on are the lines of the log after what was there before.
   pub record Puts (old now : List ℕ) (page : ℕ) : Type 0 where
     pub below : page ≤ used
     pub fault : (log used numbers pages).fault ≡ (log_on used numbers pages page).fault
@@ -116,7 +116,7 @@ module _ (used : ℕ) (numbers : List ℕ) (pages : List (List ℕ)) where
         let step = log_step used numbers pages page (Ok End) puts.below found in
         (puts.fault ∙ ap (λ (l : LogFrom). l.fault) step, sym (append-nil now) ∙ ap (λ (l : List ℕ). now ++ l) (sym (end_text page)) ∙ subst TextOf step puts.text)
 
-    -- All was put, or a page behind the end is written.
+    -- All was put, or a page after the end is written.
     pub puts_all : (whole : Bool) → item_at used numbers pages page ≡ Ok End → (whole ≡ true → first_written pages page (used - page) ≡ None)
         → (whole ≡ false → first_written pages page (used - page) ≢ None) → IsListed whole (log used numbers pages) old now
     puts_all true found none written = ((at_end found).0 ∙ none refl, (at_end found).1)
@@ -127,12 +127,12 @@ module _ (used : ℕ) (numbers : List ℕ) (pages : List (List ℕ)) where
     puts_fault at found = λ fine.
         let no : Some at ≡ None = sym (puts.fault ∙ ap (λ (l : LogFrom). l.fault) (log_step used numbers pages page (Err at) puts.below found)) ∙ fine in absurd (cc no)
 
--- An item that was not told is at fault, where no read failed.
+-- An item that was not returned is at fault, where no read failed.
 pub fault_told : (sector : ℕ) (at : Result Item ℕ) (fault : PageFault) → TellsOrFails {T = Item} (Err fault) (told sector at) → fault ≢ Flash → (page : ℕ) × (at ≡ Err page)
 fault_told sector (Ok item) fault tells other = ⊎_elim (λ same. absurd (other (cc same))) (λ no. absurd (cc no)) tells
 fault_told sector (Err page) fault tells other = (page, refl)
 
--- Whether the pages behind the end are blank, where no read failed.
+-- Whether the pages after the end are blank, where no read failed.
 pub blank_told : (sector : ℕ) (written : Option ℕ) (r : Result (Unit {0}) PageFault) → TellsOrFails r (told_fault sector written) → r ≢ Err Flash → (blank : Bool) → blank ≡ is_ok r
     → (blank ≡ true → written ≡ None) × (blank ≡ false → written ≢ None)
 blank_told sector None (Ok done) tells other blank is = (λ e. refl, λ e. absurd (let no : true ≡ false = sym is ∙ e in cc no))

@@ -4,7 +4,7 @@ use Rattle.flt_flash.specs.State.{FlashState}
 use Rattle.flt_flash.specs.Memory as memory
 use Rattle.flt_dump.specs.declared.copy.ImageCopy.{ImageCopy}
 
--- A flash that is always on, whose count of faults stands at 0, and on which no arm is made.
+-- A flash that is always on, whose count of faults is 0, and on which no arm is made.
 abbrev pub quiet_state : FlashState → FlashState
 quiet_state flash = record flash {
   is_off = false;

@@ -19,7 +19,7 @@ pub record DumpContent : Type 0 where
   pub config : Config
   pub image : List (List (List ℕ))
 
--- Why bytes are no dump: by the lines before the image, since a step stands there or a life ends, or by the first line of the pages that
+-- Why bytes are no dump: by the lines before the image, since a step is there or a life ends, or by the first line of the pages that
 -- is wrong, missing or too many.
 pub data DumpRefusal : Type 0 where
   no_script : ScriptFault → DumpRefusal
@@ -30,11 +30,11 @@ pub data DumpRefusal : Type 0 where
 abbrev pub is_image : List ℕ → Bool
 is_image line = bytes_eq line (codes "image")
 
--- How many lines stand before it.
+-- How many lines are before it.
 abbrev pub image_at : List ℕ → Option ℕ
 image_at bytes = position is_image (lines_of bytes)
 
--- The bytes of the first lines, so many, each with its end.
+-- The bytes of this many first lines, each with its end.
 unfoldable pub first_lines : ℕ → List ℕ → List ℕ
 first_lines count bytes = flat_map (λ part. part ++ 10 ∷ []) (take count (slice_split (λ b. b == 10) bytes))
 
@@ -48,7 +48,7 @@ with_page number None rest = Err number
 with_page number (Some page) (Ok pages) = Ok (page ∷ pages)
 with_page number (Some page) (Err wrong) = Err wrong
 
--- The pages that so many lines spell, from the line of this number on, and no more of them; or the number of the first that is wrong.
+-- The pages that this many lines spell, from the line of this number on, and no more of them; or the number of the first that is wrong.
 unfoldable pub pages_spelled : ℕ → ℕ → List (List ℕ) → Result (List (List ℕ)) ℕ
 pages_spelled number zero [] = Ok []
 pages_spelled number zero (line ∷ lines) = Err number
@@ -60,7 +60,7 @@ abbrev pub has_step : PartOf Step → Bool
 has_step (inl step) = true
 has_step (inr lanes) = list_any (λ lane. nat_lt 0 (length lane)) lanes
 
--- A step, or the end of a life, stands in the script.
+-- The script has a step, or the end of a life.
 abbrev pub has_begun_life : ScriptContent → Bool
 has_begun_life script = nat_lt 1 (length script.lives) || list_any (λ parts. list_any has_step parts) script.lives
 
@@ -69,13 +69,13 @@ abbrev pub dump_by : Config → Result (List (List ℕ)) ℕ → Result DumpCont
 dump_by c (Ok pages) = Ok (record { config = c; image = take c.pages pages ∷ drop c.pages pages ∷ [] })
 dump_by c (Err number) = Err (no_page number)
 
--- The dump of a configuration and the lines behind line `image`, of which the first has this number.
+-- The dump of a configuration and the lines after line `image`, of which the first has this number.
 abbrev pub dump_behind : ℕ → List (List ℕ) → Result ScriptContent ScriptFault → Result DumpContent DumpRefusal
 dump_behind number lines (Err fault) = Err (no_script fault)
 dump_behind number lines (Ok content) =
     if has_begun_life content then Err begun else dump_by content.config (pages_spelled number (2 * content.config.pages) lines)
 
--- The dump by where its line `image` stands. Where there is none the first line is told.
+-- The dump by where its line `image` is. Where there is none the first line is reported.
 abbrev pub dump_at : List DidUse → List ℕ → Option ℕ → Result DumpContent DumpRefusal
 dump_at dids bytes None = Err (no_script (record { line = 1; cause = Form }))
 dump_at dids bytes (Some before) = dump_behind (before + 2) (drop (before + 1) (lines_of bytes)) (script_of dids (first_lines before bytes))

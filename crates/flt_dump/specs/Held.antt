@@ -11,7 +11,7 @@ use Rattle.flt_dump.specs.declared.held.Insight.{Insight}
 use Rattle.flt_dump.specs.Dump.{DumpContent}
 use Rattle.flt_dump.specs.Listing.{listing_text}
 
--- The number of the generation, or the fault as a start-up tells it.
+-- The number of the generation, or the fault as a start-up reports it.
 abbrev pub number_told : Config → Result Generation Fault → Result ℕ StartFault
 number_told c (Ok g) = Ok g.number
 number_told c (Err fault) = Err (told_as c fault)

@@ -8,7 +8,7 @@ use Rattle.flt_dump.specs.declared.listing.Record.{Record}
 abbrev pub entry_of : Record → Entry
 entry_of found = record { page = found.page; block = found.block; length = found.length; valid = found.valid; complete = found.complete }
 
--- The lines of a log without a fault were put behind the text, or the log has a fault.
+-- The lines of a log without a fault were put after the text, or the log has a fault.
 abbrev pub IsListed : Bool → LogFrom → List ℕ → List ℕ → Type 0
 IsListed true log old new = (log.fault ≡ None) × (new ≡ old ++ log_text 2 log.entries log.end)
 IsListed false log old new = log.fault ≢ None

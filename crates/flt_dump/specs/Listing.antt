@@ -21,7 +21,7 @@ unfoldable pub record_line : Entry → List ℕ
 record_line entry = codes "page " ++ decimal entry.page ++ codes " block " ++ decimal entry.block ++ codes " length " ++ decimal entry.length
     ++ ending_text entry.valid entry.complete ++ 10 ∷ []
 
--- So many pages from this one on, each with a torn head.
+-- This many pages from this one on, each with a torn head.
 unfoldable pub torn_lines : ℕ → ℕ → List ℕ
 torn_lines page zero = []
 torn_lines page (suc left) = torn_line page ++ torn_lines (page + 1) left

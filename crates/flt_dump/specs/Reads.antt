@@ -9,7 +9,7 @@ use Rattle.flt_dump.specs.declared.dump.DumpFault.TheVariants.{Memory, Script, O
 abbrev pub dump_content : Dump → DumpContent
 dump_content dump = record { config = dump.config; image = take dump.config.pages dump.pages.items ∷ drop dump.config.pages dump.pages.items ∷ [] }
 
--- What a fault tells of the bytes; a lack of memory tells nothing.
+-- What a fault says of the bytes; a lack of memory says nothing.
 abbrev pub dump_refusal_of : DumpFault → Option DumpRefusal
 dump_refusal_of Memory = None
 dump_refusal_of (Script fault) = Some (no_script fault)

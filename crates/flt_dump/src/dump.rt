@@ -19,7 +19,7 @@ pub enum DumpFault {
     /// Memory ran out. This says nothing about the bytes.
     #[error("memory ran out")]
     Memory,
-    /// The lines before the line `image` are no script; or there is no such line, which is told of line 1 as `form`.
+    /// The lines before the line `image` are no script; or there is no such line, which is reported of line 1 as `form`.
     #[error("the lines before the line `image` are no script")]
     Script(ScriptFault),
     /// They have a step, or the end of a life.

@@ -5,14 +5,14 @@ ghost use Rattle.flt_dump.specs.Lines.{IsImageLine};
 
 use flt_script::{place_of_feed, without_return};
 
-/// Where the line `image` of a dump stands.
+/// Where the line `image` of a dump is.
 #[derive(Clone, Copy)]
 pub(crate) struct ImageLine {
-    /// How many lines stand before it.
+    /// How many lines are before it.
     pub(crate) before: usize,
     /// Its first byte.
     pub(crate) from: usize,
-    /// The first byte behind it.
+    /// The first byte after it.
     pub(crate) behind: usize,
 }
 

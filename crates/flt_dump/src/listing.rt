@@ -1,5 +1,5 @@
 //! What an image says line by line.
-ghost use Rattle.std.specs.Prelude.{◌≡◌, ◌++◌, ◌<◌, ◌≤◌, IfOk, OnOk};
+ghost use Rattle.std.specs.Prelude.{◌≡◌, ◌++◌, ◌≤◌, IfOk, OnOk};
 ghost use Rattle.flt_flash.specs.Image.{sector_at};
 ghost use Rattle.flt_sector_model.specs.Log.{log};
 ghost use Rattle.flt_store_model.specs.Layout.{numbers};
@@ -14,7 +14,7 @@ use flt_pages::{CurrentSector, Item, Numbers, blank_from, byte_pages, current_se
 use std::alloc::{AllocError, Global};
 use std::fmt::Write;
 
-/// A record of a log, as its line tells it.
+/// A record of a log, as its line gives it.
 #[derive(Clone, Copy)]
 struct Record {
     page: u16,
@@ -66,7 +66,11 @@ fn put_record(found: Record, out: &mut Vec<u8>) -> Result<(), AllocError>
 fn put_sector(at: CurrentSector, out: &mut Vec<u8>) -> Result<(), AllocError>
     ensures { OnOk result (out.new.items ≡ out.old.items ++ sector_line (current_of at)) }
 {
-    let CurrentSector { sector, sequence } = at;
+    let CurrentSector {
+        sector,
+        sequence,
+        ..
+    } = at;
     let line = format!(in *out.allocator(); "sector {sector} sequence {sequence}\n")?;
     out.extend_from_slice(line.as_bytes())
 }
@@ -74,23 +78,20 @@ fn put_sector(at: CurrentSector, out: &mut Vec<u8>) -> Result<(), AllocError>
 /// Puts the lines of the log of a sector, and answers whether the log has no fault.
 fn put_log(
     copy: &mut ImageCopy,
-    sector: u8,
-    used: u16,
+    at: CurrentSector,
     numbers: &Numbers,
     out: &mut Vec<u8>,
 ) -> Result<bool, AllocError>
-    requires sector { sector < 2 }
-    requires least { 2 ≤ used }
-    requires most { used ≤ (copy_state copy.old).pages }
-    ensures listed { IfOk result (λ whole. IsListed whole (log used numbers.now (sector_at (copy_state copy.old).image sector)) out.old.items out.new.items) }
+    requires { at.used ≤ (copy_state copy.old).pages }
+    ensures listed { IfOk result (λ whole. IsListed whole (log at.used numbers.now (sector_at (copy_state copy.old).image at.sector)) out.old.items out.new.items) }
     ensures image { (copy_state copy.new).image ≡ (copy_state copy.old).image }
     ensures pages { (copy_state copy.new).pages ≡ (copy_state copy.old).pages }
 {
     let mut page = 2;
     'log: loop {
-        match item(copy, sector, used, page, numbers) {
+        match item(copy, at.sector, at.used, page, numbers) {
             Err(_) => return Ok(false),
-            Ok(Item::End) => return Ok(blank_from(copy, sector, used, page).is_ok()),
+            Ok(Item::End) => return Ok(blank_from(copy, at.sector, at.used, page).is_ok()),
             Ok(Item::Torn) => {
                 put_torn(page, out)?;
                 page += 1;
@@ -119,7 +120,7 @@ fn put_log(
     }
 }
 
-/// The lines of an image, of which each sector has so many pages in use: the current sector and its log; none where the pages have a
+/// The lines of an image, of which each sector has this many pages in use: the current sector and its log; none where the pages have a
 /// fault. The image stays.
 pub(crate) fn list(alloc: Global, copy: &mut ImageCopy, used: u16) -> Result<Vec<u8>, AllocError>
     requires least { 2 ≤ used }
@@ -138,7 +139,7 @@ pub(crate) fn list(alloc: Global, copy: &mut ImageCopy, used: u16) -> Result<Vec
         }
         Ok(Some(at)) => {
             put_sector(at, &mut out)?;
-            let is_whole = put_log(copy, at.sector, used, &numbers, &mut out)?;
+            let is_whole = put_log(copy, at, &numbers, &mut out)?;
             if is_whole {
                 return Ok(out);
             }

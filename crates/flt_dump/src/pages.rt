@@ -37,7 +37,7 @@ fn read_page(line: &[u8]) -> Option<[u8; 32]>
     }
 }
 
-/// The pages that so many lines of a text spell, of which the first has this number. The text has no line more.
+/// The pages that this many lines of a text spell, of which the first has this number. The text has no line more.
 pub(crate) fn read_pages(
     alloc: Global,
     text: &[u8],

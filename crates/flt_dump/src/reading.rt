@@ -40,7 +40,7 @@ fn lives_have_step(lives: &[Vec<Part>]) -> bool
     lives.iter().any(|life| life_has_step(life))
 }
 
-/// A step, or the end of a life, stands in the script.
+/// The script has a step, or the end of a life.
 fn has_begun(script: &Script) -> bool
     ensures { result ≡ has_begun_life (content script.now) }
 {

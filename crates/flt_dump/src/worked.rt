@@ -6,7 +6,7 @@ pub fn each_item_is_listed()
     ensures { ListsEachItem }
 {}
 
-/// The first line of pages that is wrong, missing or too many is told.
+/// The first line of pages that is wrong, missing or too many is reported.
 pub fn wrong_lines_are_told()
     ensures { TellsWrongLines }
 {}

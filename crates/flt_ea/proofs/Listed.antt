@@ -64,7 +64,7 @@ module _ (units : List (List ℕ)) where
       → stuck_from from numbers units block ≡ has_last_sequence (current_place units (from + k))
   stuck_at = first_at (λ from numbers block. stuck_from from numbers units block) (λ n. has_last_sequence (current_place units n)) (λ from number numbers block. stuck_first units from number numbers block)
 
-  -- The table tells it too.
+  -- The table gives it too.
   pub spent_told : (from : ℕ) (numbers : List ℕ) (table : List (Option Held)) → length table ≡ length numbers → ((k : ℕ) → k < length numbers → get_or table k None ≡ current_place units (from + k))
       → list_any has_last_sequence table ≡ spent_from from numbers units
   spent_told from [] [] size tells = sym (spent_none units from)

@@ -52,7 +52,7 @@ pub current_read : (numbers : List ℕ) (units : List (List ℕ)) (table : List 
     → found ≡ get_or table position found → current_place units position ≡ found
 current_read numbers units table position found tells lt sized read = sym (tells position lt) ∙ sym (get_or_read table position found (omega arith) read None)
 
--- It tells whether some block is spent.
+-- It says whether some block is spent.
 pub told_spent : (numbers : List ℕ) (units : List (List ℕ)) (table : List (Option Held)) → length table ≡ length numbers → IsTable (length numbers) units table → list_any has_last_sequence table ≡ spent_from 0 numbers units
 told_spent numbers units table sized tells = spent_told units 0 numbers table sized (λ k less. from_zero (λ n. get_or table k None ≡ current_place units n) k (tells k less))
 
@@ -77,7 +77,7 @@ module _ (numbers : List ℕ) (before after : FlashState) (runs : MakesOperation
       → ((sector page : ℕ) → IsErrOf result (Damaged sector page) → ⊥) → BlockCalls (state_by numbers was_stale has_mounted before) (state_by numbers is_stale has_mounted after) result
   quiet_calls result = sound_calls result quiet_follows sound
 
--- An image has no fault, and this is the current place of a block of it, which stands at this position.
+-- An image has no fault, and this is the current place of a block of it, which is at this position.
 pub record StandsAt (device : FlashState) (numbers : List ℕ) (position block : ℕ) (found : Option Held) : Type 0 where
   pub shape : HasUnits device
   pub within : 10 * length numbers ≤ device.pages
@@ -137,7 +137,7 @@ module _ {device : FlashState} {numbers : List ℕ} {position block : ℕ} {foun
     pub current_is : IsHeldPlace held
     current_is = current_held units position held (stands.here ∙ is)
 
-    -- As many bytes stand behind its gate as it says.
+    -- As many bytes are after its gate as it says.
     pub size_is : length (bytes_after_gate units (gate_unit position held.place) held.gate.length) ≡ held.gate.length
     size_is =
         let lt = stands.lt in
@@ -268,7 +268,7 @@ module _ {device : FlashState} {numbers : List ℕ} {position block : ℕ} {foun
           | inr other ↦ get_or-set_other table position k (held_at (next_place found) new) None other ∙ tells k less ∙ sym (same_current k other)
         ]
 
-    -- What stands after a write that answered Ok.
+    -- What is there after a write that answered Ok.
     pub whole_now : OnOk result (HoldsRecord now unit new written)
     whole_now = by_result result put.writes.done
       where

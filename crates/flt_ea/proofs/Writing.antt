@@ -60,7 +60,7 @@ module _ (before : FlashState) (shape : HasUnits before) (unit : ℕ) (gate : Ga
     middle_units : sector_at middle.image 0 ≡ set units unit blank_page
     middle_units = units_on before middle (set units unit blank_page) shape on_clear
 
-    -- The bytes behind it, so far.
+    -- The bytes after it, so far.
     module _ (after : List (List ℕ)) (apart : KeptApart (sector_at middle.image 0) after (unit + 1) (unit + 1 + byte_pages (length held))) where
       apart_set : KeptApart (set units unit blank_page) after (unit + 1) (unit + 1 + byte_pages (length held))
       apart_set = subst (λ (p : List (List ℕ)). KeptApart p after (unit + 1) (unit + 1 + byte_pages (length held))) middle_units apart
@@ -118,7 +118,7 @@ module _ (before : FlashState) (shape : HasUnits before) (unit : ℕ) (gate : Ga
       cause = omega (arith, is.cause, on_clear.runs.counts);
     }
 
-    -- The bytes stand.
+    -- The bytes are there.
     module _ (full : FlashState) (fills : Fills {T = Unit {0}} middle full 0 (unit + 1) held (Ok tt)) (after : FlashState) (asked : List ℕ) (word : IsCodeWordOf (gate_bytes gate) asked) where
       on_full : OnSector before full 0 fills.pages
       on_full = on_sector before middle full 0 (set units unit blank_page) fills.pages on_clear fills.on

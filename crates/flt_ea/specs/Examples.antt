@@ -8,7 +8,7 @@ use Rattle.flt_ea.specs.Image.{value_in, damage_in, is_spent_in, is_stuck_in}
 
 -- ---- how worked units are written
 
--- The unit of the gate of a block that has so many bytes, and of one that is invalid.
+-- The unit of the gate of a block that has this many bytes, and of one that is invalid.
 abbrev pub has : ℕ → ℕ → ℕ → List ℕ
 has block count sequence = sealed (gate_bytes (record { block = block; length = count; valid = true; sequence = sequence }))
 
@@ -83,7 +83,7 @@ no_gate = sealed (replicate 16 0)
 abbrev pub spoiled_unit : List ℕ
 spoiled_unit = replicate 32 0
 
--- The first damaged place is told, as the place and the position of its block; a torn unit is no damage.
+-- The first damaged place is reported, as the place and the position of its block; a torn unit is no damage.
 pub record FirstDamage : Type 0 where
   pub other_block : damage (gates (has 9 1 1) spoiled_unit spoiled_unit spoiled_unit) ≡ Some (0, 0)
   pub not_a_gate : damage (gates no_gate spoiled_unit spoiled_unit spoiled_unit) ≡ Some (0, 0)

@@ -38,7 +38,7 @@ gate_at units position place = slice_index_or units (gate_unit position place) [
 abbrev pub current_place : List (List ℕ) → ℕ → Option Held
 current_place units position = newer (gate_in (gate_at units position 0)) (gate_in (gate_at units position 1))
 
--- The bytes behind a gate, in as many of the four units as they need.
+-- The bytes after a gate, in as many of the four units as they need.
 abbrev pub bytes_after_gate : List (List ℕ) → ℕ → ℕ → List ℕ
 bytes_after_gate units gate size = take size (flat_map (λ unit. unit) (slice_range units (gate + 1) (gate + 1 + byte_pages size)))
 

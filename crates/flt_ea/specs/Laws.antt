@@ -99,7 +99,7 @@ module _ (device : FlashState) (shape : HasUnits device) where
   abbrev units : List (List ℕ)
   units = sector_at device.image 0
 
-  -- So many bytes stand behind a gate, where so many units do.
+  -- This many bytes are after a gate, where that number of units are.
   pub size_behind : (gate size : ℕ) → gate + 1 + byte_pages size ≤ length units → length (bytes_after_gate units gate size) ≡ size
   size_behind gate size room =
       let to = gate + 1 + byte_pages size in
@@ -107,7 +107,7 @@ module _ (device : FlashState) (shape : HasUnits device) where
       let many : length range ≡ byte_pages size = omega (arith, range_size units (gate + 1) to room) in
       omega (arith, length-take size (flat range), flat_size range (range_pages units (gate + 1) to room shape.bytes), many)
 
-  -- As many bytes stand behind a gate as it says.
+  -- As many bytes are after a gate as it says.
   pub held_size : (position : ℕ) (held : Held) → 10 * position + 10 ≤ device.pages → IsHeldPlace held → length (bytes_after_gate units (gate_unit position held.place) held.gate.length) ≡ held.gate.length
   held_size position held room proper =
       let most = length_most held.gate.valid held.gate.length proper.gate.kind in

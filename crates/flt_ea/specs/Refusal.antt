@@ -1,5 +1,6 @@
--- When a record is refused.
-use Rattle.std.specs.Prelude.{◌≡◌, Bool, true, false, Result, Ok, Err}
+-- When a record is refused, and how many operations one costs that is written.
+use Rattle.std.specs.Prelude.{◌≡◌, ◌+◌, ◌≤◌, ℕ, Bool, true, false, IsErrOf, Result, Ok, Err}
+use Rattle.flt_flash.specs.State.{FlashState}
 use Rattle.flt_flash.specs.declared.blocks.BlockFault.{BlockFault}
 use Rattle.flt_flash.specs.declared.blocks.BlockFault.TheVariants.{Flash, Full, SequenceSpent, Damaged}
 
@@ -10,3 +11,7 @@ AnswersBy stuck (Err Flash) = Unit {0}
 AnswersBy stuck (Err (Full live needed)) = ⊥
 AnswersBy stuck (Err SequenceSpent) = stuck ≡ true
 AnswersBy stuck (Err (Damaged sector page)) = Unit {0}
+
+-- At most this many operations were made, unless the device failed.
+abbrev pub SpendsUnlessFlash : ℕ → FlashState → FlashState → Result (Unit {0}) BlockFault → Type 0
+SpendsUnlessFlash pages before after result = (IsErrOf result Flash → ⊥) → after.operations ≤ before.operations + pages

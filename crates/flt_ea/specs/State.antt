@@ -1,4 +1,4 @@
--- What an EEPROM means: it is told as a flash of one sector, whose pages are its units, and which counts no erases.
+-- What an EEPROM means: it is given as a flash of one sector, whose pages are its units, and which counts no erases.
 use Rattle.std.specs.Prelude.{◌≡◌, ◌+◌, ◌*◌, ◌<◌, ℕ, List, [], ◌∷◌, length, nat_lt, if◌then◌else◌, Some, false}
 use Rattle.flt_flash.specs.Image.{sector_at, page_at, programmed, ArePages}
 use Rattle.flt_flash.specs.State.{FlashState}

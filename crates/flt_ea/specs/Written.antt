@@ -18,7 +18,7 @@ pub record IsEmptyAt (units : List (List ℕ)) (unit : ℕ) : Type 0 where
   pub none : unsealed (slice_index_or units unit []) ≡ None
   pub unspoiled : is_spoiled (slice_index_or units unit []) ≡ false
 
--- The gate stands, with these bytes behind it, on units that are filled up with ones.
+-- The gate is there, with these bytes after it, on units that are filled up with ones.
 pub record HoldsRecord (units : List (List ℕ)) (unit : ℕ) (gate : Gate) (held : List ℕ) : Type 0 where
   pub gate_is : unsealed (slice_index_or units unit []) ≡ Some (gate_bytes gate)
   pub unspoiled : is_spoiled (slice_index_or units unit []) ≡ false

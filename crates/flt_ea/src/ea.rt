@@ -1,15 +1,14 @@
 //! A driver of blocks over an EEPROM.
-ghost use Rattle.std.specs.Prelude.{◌≡◌, ◌≢◌, ◌+◌, ◌<◌, ◌≤◌, ◌*◌, ℕ, true, false, length, Contains, Ok, None, IfOk, IfErr, OnOk, OnErr, IsErrOf, IsFalse, slice_index_or};
+ghost use Rattle.std.specs.Prelude.{◌≡◌, ◌≢◌, ◌+◌, ◌<◌, ◌≤◌, ◌*◌, ℕ, true, false, length, Contains, Ok, None, IfOk, IfErr, OnOk, OnErr, IsFalse, slice_index_or};
 ghost use Rattle.std.specs.List.{AllPairs};
 ghost use Rattle.flt_flash.specs.Blocks.{byte_pages, device_of, record_pages};
 ghost use Rattle.flt_flash.specs.Content.{invalid, bytes as holding, size_of};
 ghost use Rattle.flt_flash.specs.Calls.{BlockCalls, CountsCallOf, CountsMount, Changes, Costs, MountCosts, ReadCosts, NeverFull, ReadsAlone, ReadsContent, SameImage, SameSpent, SameValues, Settles};
-ghost use Rattle.flt_flash.specs.declared.blocks.BlockFault.TheVariants.{Flash};
 ghost use Rattle.flt_code.specs.Word.{is_length};
 ghost use Rattle.flt_pages.specs.LogHolds.{record_content};
 ghost use Rattle.flt_ea.specs.Image.{gate_unit, is_stuck_in};
 ghost use Rattle.flt_ea.specs.Mounted.{IsMounted};
-ghost use Rattle.flt_ea.specs.Refusal.{AnswersBy};
+ghost use Rattle.flt_ea.specs.Refusal.{AnswersBy, SpendsUnlessFlash};
 
 use crate::place::{is_last, next_place, next_sequence, some_is_last};
 use crate::record::{read_bytes, write_record};
@@ -131,7 +130,7 @@ impl<E: Eeprom> Ea<E> {
         if self.is_stale { self.look() } else { Ok(()) }
     }
 
-    /// Where a block stands among the numbers.
+    /// Where a block is among the numbers.
     fn position(&self, block: u16) -> usize
         requires { Contains (uncounted_of E.state self.now).numbers block }
         ensures within { result < length (uncounted_of E.state self.now).numbers }
@@ -151,8 +150,7 @@ impl<E: Eeprom> Ea<E> {
         ensures count { self.new.tally ≡ self.old.tally }
         ensures stale { Settles result (uncounted_of E.state self.new) }
         ensures answers { AnswersBy (is_stuck_in (uncounted_of E.state self.old).numbers (E.state self.old.device).image block) result }
-        ensures spends { (IsErrOf result Flash → ⊥)
-            → (E.state self.new.device).operations ≤ (E.state self.old.device).operations + record_pages (length bytes.now) }
+        ensures spends { SpendsUnlessFlash (record_pages (length bytes.now)) (E.state self.old.device) (E.state self.new.device) result }
     {
         let position = self.position(block);
         let held = self.table[position];

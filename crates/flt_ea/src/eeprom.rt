@@ -11,7 +11,7 @@ use flt_flash::{Arm, FlashFailed};
 /// While it is off every read and write fails, raises the count of faults, and changes nothing else but the count of
 /// operations. One that is no bench has no boots, none left, and no arms.
 pub trait Eeprom {
-    /// What a flash of one sector tells, whose pages are the units; it counts no erases.
+    /// What a flash of one sector means, whose pages are the units; it counts no erases.
     ghost state: { Self → FlashState };
 
     /// How many units it has.
@@ -40,11 +40,11 @@ pub trait Eeprom {
     fn boots_left(&self) -> u16
         ensures { result ≡ (state self.now).bench.boots_left };
 
-    /// How many arms stand, 64 at most.
+    /// How many arms remain, 64 at most.
     fn armed(&self) -> u8
         ensures { result ≡ (state self.now).bench.armed };
 
-    /// Makes an arm, which stands until it has fired, over power-ups too. A `Mute` of sector s and page p is one of unit
+    /// Makes an arm, which remains until it has fired, over power-ups too. A `Mute` of sector s and page p is one of unit
     /// 1,024 s + p.
     fn arm(&mut self, arm: Arm)
         requires room { (state self.old).bench.armed < 64 }

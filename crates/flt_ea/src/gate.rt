@@ -5,7 +5,7 @@ ghost use Rattle.flt_ea.specs.declared.gate.Gate.{Gate};
 ghost use Rattle.flt_ea.specs.Gate.{IsGate, IsGateOf, gate_bytes, gate_candidate, gate_of};
 
 /// `45`, `01` where it is valid and `02` where not, block, length, sequence, big-endian, filled up with bytes 0: the
-/// place holds so many bytes of this block. A valid one has 1 to 128 bytes, an invalid one none.
+/// place holds this many bytes of this block. A valid one has 1 to 128 bytes, an invalid one none.
 #[derive(Clone, Copy, Debug, PartialEq, Eq)]
 pub struct Gate {
     pub block: u16,

@@ -1,7 +1,7 @@
 //! An EEPROM of units of 32 bytes that loses power and fails, the same device in memory, and the driver of blocks over it, with the gates
 //! of its places.
 //!
-//! It stands on `flt_flash`, by the state of a flash of one sector (`specs/State.antt`), and on `flt_code` and `flt_pages`
+//! It depends on `flt_flash`, by the state of a flash of one sector (`specs/State.antt`), and on `flt_code` and `flt_pages`
 //! for code words, block numbers and plain bytes. The layer above uses `Blocks` of `Ea`. Read `specs/Image.antt` first: what the units
 //! hold.
 #![tactic(auto)]

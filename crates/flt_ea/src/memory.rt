@@ -1,10 +1,10 @@
 //! An EEPROM in memory, and the bench that cuts its power and makes its operations fail.
-ghost use Rattle.std.specs.Prelude.{◌≡◌, false, ◌<◌, ◌≤◌, [], ◌∷◌, ◌++◌, length, replicate, IfSome, is_err, is_some, OnOk, OnErr, IfOk};
+ghost use Rattle.std.specs.Prelude.{◌≡◌, false, ◌<◌, ◌≤◌, [], ◌∷◌, ◌++◌, length, replicate, is_err, OnOk, OnErr, IfOk};
 ghost use Rattle.flt_flash.specs.State.{Operates, CanArm, Arms, PowersUp};
 ghost use Rattle.flt_flash.specs.Tearing.{IsTorn};
-ghost use Rattle.flt_flash.specs.Image.{sector_at, blank_page};
+ghost use Rattle.flt_flash.specs.Image.{blank_page};
 ghost use Rattle.flt_flash.specs.PageArrays.{all_pages};
-ghost use Rattle.flt_flash.specs.Arms.{IsProgrammedBy, arms_told_with};
+ghost use Rattle.flt_flash.specs.Arms.{arms_told_with};
 ghost use Rattle.flt_flash.specs.Power.{first_power};
 ghost use Rattle.flt_ea.specs.State.{unit_at, with_unit, in_units, first_units};
 
@@ -13,8 +13,8 @@ use arrayvec::ArrayVec;
 use flt_flash::{Arm, ArmMade, ArmsTold, Boots, FlashFailed, PageArray, Power, outcome};
 use std::alloc::{AllocError, Global};
 
-/// An EEPROM in memory that tells everything, its arms while at most 64 were made. It reserves its memory when it is made, and touches that of
-/// a unit when it or one behind it is written. `rest` is the second sector that the bench saves, of no unit.
+/// An EEPROM in memory that reports everything, its arms while at most 64 were made. It reserves its memory when it is made, and touches that
+/// of a unit when it or a later one is written. `rest` is the second sector that the bench saves, of no unit.
 #[derive(Drop)]
 pub struct EepromMem {
     units: PageArray,
@@ -31,7 +31,7 @@ pub struct EepromMem {
 impl EepromMem {
     ghost use Rattle.flt_ea.specs.Memory.{eeprom_state, eeprom_power};
 
-    /// A device of so many units of 32 bytes FF, whose power may come back `boots` times. The error means that memory ran out.
+    /// A device of this many units of 32 bytes FF, whose power may come back `boots` times. The error means that memory ran out.
     pub fn blank(alloc: Global, units: u16, boots: u16) -> Result<EepromMem, AllocError>
         ensures state { IfOk result (λ device. eeprom_state device ≡ first_units (replicate units blank_page) boots) }
         ensures power { IfOk result (λ device. eeprom_power device ≡ first_power) }
@@ -79,9 +79,9 @@ impl EepromMem {
 }
 
 impl Eeprom for EepromMem {
-    ghost use Rattle.flt_ea.specs.Memory.{eeprom_state, eeprom_power};
+    ghost use Rattle.flt_ea.specs.Memory.{WriteFails, eeprom_power, eeprom_state};
     ghost use Rattle.flt_ea.specs.Shape.{eeprom_memory_shape};
-    ghost use Rattle.flt_flash.specs.Power.{read_fails, failing_by, power_after_write, power_after_read};
+    ghost use Rattle.flt_flash.specs.Power.{read_fails, power_after_read};
 
     ghost state = { eeprom_state };
 
@@ -114,11 +114,8 @@ impl Eeprom for EepromMem {
         ensures torn { OnErr result (IsTorn (eeprom_state self.old).image (with_unit (eeprom_state self.old).image unit bytes.now) (eeprom_state self.new).image) }
         ensures operation { Operates (eeprom_state self.old) (eeprom_state self.new) result }
 
-        // It fails exactly where the power is off or an arm stands at it, and is torn by the pattern.
-        ensures fails { is_err result ≡ is_some (failing_by (eeprom_power self.old)) }
-        ensures power { eeprom_power self.new ≡ power_after_write (eeprom_power self.old) }
-        ensures by_pattern { IfSome (failing_by (eeprom_power self.old)) (λ pattern.
-            IsProgrammedBy pattern (sector_at (eeprom_state self.old).image 0) unit bytes.now (sector_at (eeprom_state self.new).image 0)) }
+        // It fails exactly where the power is off or an arm acts at it, and is torn by the pattern.
+        ensures fails { WriteFails self.old self.new unit bytes.now result }
     {
         let failing = self.power.count_write();
         self.units.write(unit as usize, bytes, failing);
@@ -142,7 +139,7 @@ impl Eeprom for EepromMem {
         requires number { CanArm arm }
         ensures arms { Arms arm (eeprom_state self.old) (eeprom_state self.new) }
 
-        // The arm stands behind those that stood, and is told where at most 64 were made.
+        // The arm comes after those that were there, and is reported where at most 64 were made.
         ensures power { eeprom_power self.new ≡ record (eeprom_power self.old) { standing = (eeprom_power self.old).standing ++ in_units arm ∷ [] } }
         ensures told { (eeprom_state self.new).bench.arms ≡ arms_told_with (eeprom_state self.old).bench.arms
             (record { arm = arm; boots = length (eeprom_state self.old).bench.boots; faults = (eeprom_state self.old).faults }) }
@@ -159,7 +156,7 @@ impl Eeprom for EepromMem {
         requires { 0 < (eeprom_state self.old).bench.boots_left }
         ensures powers_up { PowersUp (eeprom_state self.old) (eeprom_state self.new) }
 
-        // The arms that stood stand.
+        // The arms that were there remain.
         ensures power { eeprom_power self.new ≡ record (eeprom_power self.old) { is_off = false } }
     {
         self.boots.save(self.power.faults, &self.units, &self.rest);

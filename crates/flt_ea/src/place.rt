@@ -73,7 +73,7 @@ fn is_damaged(number: u16, unit: &[u8; 32]) -> bool
     is_foreign(number, unseal(unit)) || is_spoiled(unit)
 }
 
-/// Whether no further sequence number is left behind a block's current place.
+/// Whether no further sequence number is left after a block's current place.
 pub(crate) fn is_last(held: Option<Held>) -> bool
     ensures { result ≡ has_last_sequence held }
 {

@@ -15,7 +15,7 @@ use flt_code::seal;
 use flt_flash::{BLANK_PAGE, FlashFailed};
 use flt_pages::{byte_pages, fill_up};
 
-/// Reads the first bytes behind a gate to the start of `out`. What lies past them, and all of `out` after a failure, stays.
+/// Reads the first bytes after a gate to the start of `out`. What lies past them, and all of `out` after a failure, stays.
 pub(crate) fn read_bytes<E: Eeprom>(
     device: &mut E,
     gate: u16,

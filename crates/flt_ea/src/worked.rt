@@ -11,7 +11,7 @@ pub fn each_block()
     ensures { EachBlock }
 {}
 
-/// Each kind of damage is told at its place, and the first one of several.
+/// Each kind of damage is reported at its place, and the first one of several.
 pub fn first_damage()
     ensures { FirstDamage }
 {}

@@ -1,10 +1,10 @@
--- What operations leave of an image: page behind page, sector 1 behind sector 0.
+-- What operations leave of an image: page after page, sector 1 after sector 0.
 use Rattle.std.specs.Prelude.{ℕ, ◌+◌, ◌*◌, nat_le, List, [], ◌∷◌, length, replicate, if◌then◌else◌}
 use Rattle.flt_file.specs.Bytes.{spliced}
 use Rattle.flt_embed.specs.declared.operation.Operation.{Operation}
 use Rattle.flt_embed.specs.declared.operation.Operation.TheVariants.{Program, Erase}
 
--- These bytes over those that stand from a place on, where they fit.
+-- These bytes over those from a place on, where they fit.
 abbrev pub spliced_at : ℕ → List ℕ → List ℕ → List ℕ
 spliced_at at new held = if nat_le (at + length new) (length held) then spliced at new held else held
 

@@ -12,7 +12,7 @@ abbrev pub image_with : ℕ → ℕ → ℕ → ℕ → List ℕ
 image_with first second third fourth = page_with first ++ page_with second ++ page_with third ++ page_with fourth
 
 -- A page is programmed in its own sector, and a sector is erased whole; a later operation comes over an earlier one; and what would reach
--- behind the image changes nothing.
+-- beyond the image changes nothing.
 pub record OperationsAreCarriedOut : Type 0 where
   pub none : carried 2 [] (image_with 1 2 3 4) ≡ image_with 1 2 3 4
   pub page_first : carried 2 (Program 1 0 (page_with 9) ∷ []) (image_with 1 2 3 4) ≡ image_with 1 2 9 4

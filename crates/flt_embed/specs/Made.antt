@@ -38,7 +38,7 @@ QueueTakes blocks op before after told = (jobs : History) → QueueStands blocks
 abbrev pub HandsOut : Memory → Memory → Type 0
 HandsOut before after = after.image.items ≡ carried before.config.pages after.operations.items before.image.items
 
--- A save is answered with the number that the memory tells from then on, or with why there is none.
+-- A save is answered with the number that the memory gives from then on, or with why there is none.
 abbrev pub IsSaved : Told → Memory → Type 0
 IsSaved (answers.Saved number) after = after.generation ≡ number
 IsSaved (answers.SaveFailed fault) after = Unit {0}

@@ -41,7 +41,7 @@ impl Diary {
     }
 }
 
-/// The page of a place of so many pages that a sector has, and its sector.
+/// The page of a place where a sector has this many pages, and its sector.
 fn place_of(pages: u16, at: usize) -> Option<(u8, u16)> {
     let pages = pages as usize;
     let number = at / 32;
@@ -72,7 +72,7 @@ fn operation_of(pages: u16, at: usize, bytes: &[u8]) -> Option<Operation> {
     None
 }
 
-/// Writes these bytes over those that stand from a place on.
+/// Writes these bytes over those from a place on.
 fn overwrite(bytes: &mut Vec<u8>, at: usize, new: &[u8])
     requires { at + length new.now ≤ length bytes.old.items }
     ensures { bytes.new.items ≡ spliced at new.now bytes.old.items }

@@ -10,7 +10,7 @@ pub enum Fault {
     Size,
     /// A number is out of its range.
     Range,
-    /// The operations of an earlier call were not told to be done.
+    /// The operations of an earlier call were not reported as done.
     Pending,
     /// The fault memory does not run: the power has to come first.
     Dark,

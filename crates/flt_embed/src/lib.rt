@@ -1,7 +1,7 @@
 //! The fault memory for a program that is linked with it: each call is made at once, over a copy of the image that the program keeps, and
 //! what is to be done to the flash is handed out as operations.
 //!
-//! It stands on `flt_dcm` for the machine, on `flt_queue` for the write jobs, on `flt_store` over `flt_fee` and `flt_file` for the image,
+//! It depends on `flt_dcm` for the machine, on `flt_queue` for the write jobs, on `flt_store` over `flt_fee` and `flt_file` for the image,
 //! and on `flt_report` for the lines. `flt_c` above puts the calls of `Memory` under the names of C. Read `specs/Made.antt` first, then
 //! `specs/Carried.antt`.
 #![tactic(auto)]

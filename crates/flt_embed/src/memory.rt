@@ -69,10 +69,10 @@ pub struct Memory {
     ghost responses: { 1040 ≤ byte_room replies.responses },
 }
 
-/// The image of a flash of so many pages a sector: the bytes that are given, or blank ones.
+/// The image of a flash of this many pages a sector: the bytes that are given, or blank ones.
 fn image_from(alloc: Global, pages: u16, image: Option<&[u8]>) -> Result<Vec<u8>, Fault>
     ensures size { IfOk result (λ image. length image.items ≡ 64 * pages) }
-    ensures given { IfOk result (λ made. IfSome image.entry (λ given. made.items ≡ given.now)) }
+    ensures same_bytes { IfOk result (λ made. IfSome image.entry (λ given. made.items ≡ given.now)) }
 {
     let size = 64 * pages as usize;
     match image {
@@ -96,7 +96,7 @@ fn serves(dids: &DidTable<DID_ROWS>, config: &ValidConfig) -> bool
 impl Memory {
     ghost use Rattle.flt_embed.specs.Made.{HandsOut, IsStepMade, IsOfQueue, ChangesNothing, IsOfMachine, IsSaved, QueueTakes};
 
-    /// Makes the power come, over the given image, or over a blank one. The bytes of an image are those of its two sectors, page behind
+    /// Makes the power come, over the given image, or over a blank one. The bytes of an image are those of its two sectors, page after
     /// page, sector 0 first. The table has each data identifier of the configuration.
     pub fn open(
         alloc: Global,
@@ -136,7 +136,7 @@ impl Memory {
         self.then
     }
 
-    /// The line of the last call that was made, without a line feed behind it.
+    /// The line of the last call that was made, without a line feed after it.
     pub fn line(&self) -> &[u8] {
         &self.line
     }
@@ -174,7 +174,7 @@ impl Memory {
 
     /// Makes the power come, over the given image, or over that of the last life, and starts up. It may come at any moment.
     pub fn power_up(&mut self, alloc: Global, image: Option<&[u8]>) -> Result<(), Fault>
-        ensures carried { OnOk result (IfNone image.entry (HandsOut self.old self.new)) }
+        ensures operations_give_image { OnOk result (IfNone image.entry (HandsOut self.old self.new)) }
     {
         let pages = self.config.config().pages;
         let image = match image {
@@ -334,7 +334,7 @@ impl Memory {
     ) -> Result<StepAnswer<ReplyKind>, Fault>
         requires { Serves (dids_of dids.now) self.old.config.events.items }
         ensures saved { IfOk result (λ answer. IsSaved (told_with self.new.buffers.response.items answer) self.new) }
-        ensures carried { OnOk result (HandsOut self.old self.new) }
+        ensures operations_give_image { OnOk result (HandsOut self.old self.new) }
         ensures config { self.new.config ≡ self.old.config }
         ensures refused { IfErr result (λ fault. ChangesNothing fault → self.new ≡ self.old) }
     {
@@ -365,7 +365,7 @@ impl Memory {
         requires block { block < self.old.config.blocks }
         ensures unit { self.new.unit ≡ self.old.unit }
         ensures queue { self.new.queue ≡ self.old.queue }
-        ensures carried { OnOk result (HandsOut self.old self.new) }
+        ensures operations_give_image { OnOk result (HandsOut self.old self.new) }
         ensures config { self.new.config ≡ self.old.config }
         ensures refused { IfErr result (λ fault. ChangesNothing fault → self.new ≡ self.old) }
     {
@@ -378,7 +378,7 @@ impl Memory {
     /// Writes the jobs that wait.
     fn drain(&mut self, alloc: Global) -> Result<StepAnswer<ReplyKind>, Fault>
         ensures unit { self.new.unit ≡ self.old.unit }
-        ensures carried { OnOk result (HandsOut self.old self.new) }
+        ensures operations_give_image { OnOk result (HandsOut self.old self.new) }
         ensures config { self.new.config ≡ self.old.config }
         ensures refused { IfErr result (λ fault. ChangesNothing fault → self.new ≡ self.old) }
     {
@@ -397,7 +397,7 @@ impl Memory {
     ) -> Result<(), Fault>
         ensures up { OnOk result (self.old.stage ≡ Up) }
         ensures made { OnOk result ((told : Told) × (self.new.line.items ≡ step_line step told) × IsStepMade (action_of step) told self.old self.new) }
-        ensures carried { OnOk result (HandsOut self.old self.new) }
+        ensures operations_give_image { OnOk result (HandsOut self.old self.new) }
         ensures refused { IfErr result (λ fault. ChangesNothing fault → self.new ≡ self.old) }
     {
         match self.stage {
@@ -433,10 +433,10 @@ impl Memory {
     }
 
     /// Puts 1 to 32 bytes into an application block at once. It has no line. If they could not be written, it is `Flash`, and what is to be
-    /// done to the flash is told all the same.
+    /// done to the flash is handed out all the same.
     pub fn put(&mut self, alloc: Global, block: u8, bytes: &[u8]) -> Result<(), Fault>
         ensures up { OnOk result (self.old.stage ≡ Up) }
-        ensures carried { OnOk result (HandsOut self.old self.new) }
+        ensures operations_give_image { OnOk result (HandsOut self.old self.new) }
         ensures refused { IfErr result (λ fault. ChangesNothing fault → self.new ≡ self.old) }
     {
         match self.stage {

@@ -17,7 +17,7 @@ pub enum Operation {
     },
 }
 
-/// Puts these bytes over those that stand from a place on, where they fit.
+/// Puts these bytes over those from a place on, where they fit.
 fn put_at(image: &mut Vec<u8>, at: usize, new: &[u8])
     requires near { at < 4294967296 }
     requires few { length new.now < 4294967296 }
@@ -29,10 +29,10 @@ fn put_at(image: &mut Vec<u8>, at: usize, new: &[u8])
     }
 }
 
-/// Carries an operation out on an image of two sectors of so many pages, of which one sector has these bytes where it is blank.
+/// Carries an operation out on an image of two sectors of this many pages, of which one sector has these bytes where it is blank.
 fn carry(image: &mut Vec<u8>, pages: u16, blank: &[u8], operation: &Operation)
     requires { blank.now ≡ replicate (32 * pages) 255 }
-    ensures carried { image.new.items ≡ carried_by pages operation.now image.old.items }
+    ensures image { image.new.items ≡ carried_by pages operation.now image.old.items }
     ensures size { length image.new.items ≡ length image.old.items }
 {
     match operation {
@@ -53,7 +53,7 @@ fn carry(image: &mut Vec<u8>, pages: u16, blank: &[u8], operation: &Operation)
 /// Carries operations out, in their order.
 pub(crate) fn carry_out(image: &mut Vec<u8>, pages: u16, blank: &[u8], operations: &[Operation])
     requires { blank.now ≡ replicate (32 * pages) 255 }
-    ensures carried { image.new.items ≡ carried pages operations.now image.old.items }
+    ensures image { image.new.items ≡ carried pages operations.now image.old.items }
     ensures size { length image.new.items ≡ length image.old.items }
 {
     for operation in operations {

@@ -1,7 +1,6 @@
 //! The store over a copy of the image that a caller keeps.
 ghost use Rattle.std.specs.Prelude.{◌≡◌, ◌+◌, ◌*◌, ◌<◌, ◌≤◌, IfErr, IfOk, OnOk, IfSome, length, replicate};
 ghost use Rattle.flt_config.specs.Durable.{Fits};
-ghost use Rattle.flt_queue.specs.Queue.{IsJob};
 ghost use Rattle.flt_store_model.specs.Holding.{Generation};
 ghost use Rattle.flt_store.specs.Cause.{HasRoom};
 ghost use Rattle.flt_store.specs.Store.{driver_of, numbered, IsAlive, IsRunning};
@@ -19,8 +18,9 @@ use flt_file::FlashFile;
 use flt_flash::Blocks;
 use flt_image::{block_table, fee_numbers, laws};
 use flt_life_model::StepAnswer;
+use flt_lives::drain;
 use flt_nvm::Nvm;
-use flt_queue::{Job, JobQueue, QueueKind, QueueOp, WAITING};
+use flt_queue::JobQueue;
 use flt_store::{SaveFault, StartFault, Store};
 use std::alloc::{AllocError, Global};
 
@@ -115,7 +115,7 @@ pub(crate) fn start(alloc: Global, config: &ValidConfig, image: &[u8]) -> Result
 /// The image as the store left it, and what is to be done to the one before. There is none where the two do not agree.
 pub(crate) fn settle(mounted: Mounted, pages: u16) -> Option<Settled>
     requires { mounted.blank.items ≡ replicate (32 * pages) 255 }
-    ensures carried { IfSome result (λ settled. settled.image.items ≡ carried pages settled.operations.items mounted.image.items) }
+    ensures operations_give_image { IfSome result (λ settled. settled.image.items ≡ carried pages settled.operations.items mounted.image.items) }
     ensures size { IfSome result (λ settled. length settled.image.items ≡ length mounted.image.items) }
 {
     let Mounted {
@@ -147,7 +147,7 @@ pub(crate) fn restart(
     state: &mut Persist,
 ) -> Result<Begun, Fault>
     requires size { length image.now ≡ 64 * config.now.pages }
-    ensures carried { IfOk result (λ begun. begun.settled.image.items ≡ carried config.now.pages begun.settled.operations.items image.now) }
+    ensures operations_give_image { IfOk result (λ begun. begun.settled.image.items ≡ carried config.now.pages begun.settled.operations.items image.now) }
     ensures size { IfOk result (λ begun. length begun.settled.image.items ≡ 64 * config.now.pages) }
     ensures fits { IfOk result (λ begun. OnOk begun.found (Fits config.now state.new)) }
 {
@@ -168,7 +168,7 @@ pub(crate) fn save_on(
     requires fits { Fits config.now state.now }
     ensures next { (held : Generation) → IsRunning config.now held held mounted.store
         → IfOk result (λ saved. IfOk saved.1 (λ number. number ≡ held.number + 1)) }
-    ensures carried { IfOk result (λ saved. saved.0.image.items ≡ carried config.now.pages saved.0.operations.items mounted.image.items) }
+    ensures operations_give_image { IfOk result (λ saved. saved.0.image.items ≡ carried config.now.pages saved.0.operations.items mounted.image.items) }
     ensures size { IfOk result (λ saved. length saved.0.image.items ≡ length mounted.image.items) }
     ensures flash { IfErr result (λ fault. fault ≡ Flash) }
 {
@@ -187,7 +187,7 @@ pub(crate) fn get_on(
     requires block { block < config.now.blocks }
     requires alive { IsAlive config.now mounted.store }
     requires blank { mounted.blank.items ≡ replicate (32 * config.now.pages) 255 }
-    ensures carried { IfOk result (λ got. got.0.image.items ≡ carried config.now.pages got.0.operations.items mounted.image.items) }
+    ensures operations_give_image { IfOk result (λ got. got.0.image.items ≡ carried config.now.pages got.0.operations.items mounted.image.items) }
     ensures size { IfOk result (λ got. length got.0.image.items ≡ length mounted.image.items) }
     ensures flash { IfErr result (λ fault. fault ≡ Flash) }
 {
@@ -209,12 +209,12 @@ pub(crate) fn put_on(
     requires most { length bytes.now ≤ 32 }
     requires alive { IsAlive config.now mounted.store }
     requires blank { mounted.blank.items ≡ replicate (32 * config.now.pages) 255 }
-    ensures carried { IfOk result (λ put. put.0.image.items ≡ carried config.now.pages put.0.operations.items mounted.image.items) }
+    ensures operations_give_image { IfOk result (λ put. put.0.image.items ≡ carried config.now.pages put.0.operations.items mounted.image.items) }
     ensures size { IfOk result (λ put. length put.0.image.items ≡ length mounted.image.items) }
     ensures flash { IfErr result (λ fault. fault ≡ Flash) }
 {
     let mut mounted = mounted;
-    let put = put(&mut mounted.store, config, block, bytes);
+    let put = mounted.store.put_block(block, bytes).is_ok();
     let settled = settle(mounted, config.config().pages).ok_or(Fault::Flash)?;
     Ok((settled, put))
 }
@@ -229,14 +229,14 @@ pub(crate) fn drain_on(
     requires alive { IsAlive config.now mounted.store }
     requires blank { mounted.blank.items ≡ replicate (32 * config.now.pages) 255 }
     ensures blocks { queue.new.blocks ≡ queue.old.blocks }
-    ensures carried { IfOk result (λ drained. drained.0.image.items ≡ carried config.now.pages drained.0.operations.items mounted.image.items) }
+    ensures operations_give_image { IfOk result (λ drained. drained.0.image.items ≡ carried config.now.pages drained.0.operations.items mounted.image.items) }
     ensures size { IfOk result (λ drained. length drained.0.image.items ≡ length mounted.image.items) }
     ensures flash { IfErr result (λ fault. fault ≡ Flash) }
 {
     let mut mounted = mounted;
-    let answer = drain(queue, &mut mounted.store, config);
+    let (written, failed) = drain(queue, &mut mounted.store, config);
     let settled = settle(mounted, config.config().pages).ok_or(Fault::Flash)?;
-    Ok((settled, answer))
+    Ok((settled, StepAnswer::Drained { written, failed }))
 }
 
 /// Reads an application block. There is no answer where the flash failed.
@@ -254,83 +254,4 @@ fn get<D: Blocks + Drop>(
         Ok(false) => StepAnswer::NoBlock,
         Err(_) => StepAnswer::BlockFlash,
     }
-}
-
-/// Puts bytes into an application block: whether they are there.
-fn put<D: Blocks + Drop>(
-    store: &mut Store<D>,
-    config: &ValidConfig,
-    block: u8,
-    bytes: &[u8],
-) -> bool
-    requires block { block < config.now.blocks }
-    requires least { 1 ≤ length bytes.now }
-    requires most { length bytes.now ≤ 32 }
-    requires alive { IsAlive config.now store.old }
-    ensures running { (held spare : Generation) → IsRunning config.now held spare store.old → IsRunning config.now held spare store.new }
-{
-    store.put_block(block, bytes).is_ok()
-}
-
-/// Writes a job, and notes what became of it: whether it was written.
-fn write_job<D: Blocks + Drop>(
-    queue: &mut JobQueue,
-    store: &mut Store<D>,
-    config: &ValidConfig,
-    job: &Job,
-) -> bool
-    requires blocks { queue.old.blocks ≡ config.now.blocks }
-    requires alive { IsAlive config.now store.old }
-    requires job { IsJob config.now.blocks job.now }
-    ensures blocks { queue.new.blocks ≡ queue.old.blocks }
-    ensures running { (held spare : Generation) → IsRunning config.now held spare store.old → IsRunning config.now held spare store.new }
-{
-    let written = put(store, config, job.block, &job.bytes);
-    queue.apply(&QueueOp::Done {
-        block: job.block,
-        written,
-    });
-    written
-}
-
-/// Takes the next job, writes it, and notes what became of it: whether it was written, or nothing where no job waits. The job is
-/// written in place of what `job` holds.
-fn take_job<D: Blocks + Drop>(
-    queue: &mut JobQueue,
-    store: &mut Store<D>,
-    config: &ValidConfig,
-    job: &mut Job,
-) -> Option<bool>
-    requires blocks { queue.old.blocks ≡ config.now.blocks }
-    requires alive { IsAlive config.now store.old }
-    ensures blocks { queue.new.blocks ≡ queue.old.blocks }
-    ensures running { (held spare : Generation) → IsRunning config.now held spare store.old → IsRunning config.now held spare store.new }
-{
-    match queue.apply_into(&QueueOp::Take, job) {
-        QueueKind::Job(()) => Some(write_job(queue, store, config, job)),
-        _ => None,
-    }
-}
-
-/// Takes jobs until none waits, at most 32, and writes them. It answers how many were written, and how many could not be.
-fn drain<D: Blocks + Drop>(
-    queue: &mut JobQueue,
-    store: &mut Store<D>,
-    config: &ValidConfig,
-) -> StepAnswer<ReplyKind>
-    requires blocks { queue.old.blocks ≡ config.now.blocks }
-    requires alive { IsAlive config.now store.old }
-    ensures blocks { queue.new.blocks ≡ queue.old.blocks }
-{
-    let mut job = Job::room();
-    let mut written: u16 = 0;
-    let mut failed: u16 = 0;
-    for _job in 0..WAITING {
-        let Some(was_written) = take_job(queue, store, config, &mut job) else {
-            break;
-        };
-        written = written.saturating_add(u16::from(was_written));
-        failed = failed.saturating_add(u16::from(!was_written));
-    }
-    StepAnswer::Drained { written, failed }
 }

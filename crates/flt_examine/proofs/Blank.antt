@@ -1,4 +1,4 @@
--- A run over a blank flash, as its source and its flash tell.
+-- A run over a blank flash, as its source and its flash reveal.
 use Rattle.std.proofs.Common.{◌≡◌, ◌≢◌, ℕ, List, Option, Some, subst}
 use Rattle.flt_config.specs.declared.config.DidUse.{DidUse}
 use Rattle.flt_flash.specs.Memory.{flash_state}

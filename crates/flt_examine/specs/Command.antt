@@ -1,4 +1,4 @@
--- What the words behind the program's name say.
+-- What the words after the program's name say.
 use Rattle.std.specs.Prelude.{ℕ, List, [], ◌∷◌, Option, Some, None, if◌then◌else◌, codes}
 use Rattle.std.specs.Str.{bytes_eq}
 use Rattle.flt_examine.specs.declared.command.Command.{Command}

@@ -47,7 +47,7 @@ fn with_status(status: u8, outcome: Outcome<FlashMem>) -> Examined
     }
 }
 
-/// Tells the trace of the last life of a script, as one line of JSON.
+/// Writes the trace of the last life of a script, as one line of JSON.
 fn trace<R: Threads + Wait + Sync, S: Source, K: Sink>(
     rt: &R,
     alloc: Global,

@@ -103,9 +103,9 @@ impl Judge for Inspector<'_> {
     }
 }
 
-/// Tells what the image of a dump holds, and what it says line by line; and answers the exit status: 0 where it holds a generation, 6
+/// Reports what the image of a dump holds, and what it says line by line; and answers the exit status: 0 where it holds a generation, 6
 /// where it is damaged or of another configuration; 2 where the lines before the image are no configuration; 3 where the source failed; 4
-/// in place of another where the sink did; 7 if memory ran out; 9 if more than 16,777,216 bytes came; 10 where the lines behind
+/// in place of another where the sink did; 7 if memory ran out; 9 if more than 16,777,216 bytes came; 10 where the lines after
 /// are not the pages of both sectors.
 pub fn inspect<S: Source, K: Sink>(
     alloc: Global,

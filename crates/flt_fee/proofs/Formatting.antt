@@ -1,5 +1,5 @@
 -- What a driver means while its image holds nothing.
-use Rattle.std.proofs.Common.{◌≡◌, ⊎_elim, inl, ◌≤◌, ℕ, Bool, true, false, List, None, Result, Ok, refl, sym, ◌∙◌, ap}
+use Rattle.std.proofs.Common.{◌≡◌, ⊎_elim, inl, ◌≤◌, ℕ, Bool, true, false, List, None, Result, Ok, refl, sym, ◌∙◌, ap, subst}
 use Rattle.std.specs.Prelude.{IsErrOf}
 use Rattle.flt_flash.specs.Image.{sector_at}
 use Rattle.flt_flash.specs.Content.{missing}
@@ -8,9 +8,11 @@ use Rattle.flt_flash.specs.Calls.{BlockCalls, SameSpent, SameValues}
 use Rattle.flt_flash.specs.declared.blocks.BlockFault.{BlockFault}
 use Rattle.flt_flash.proofs.Answering.{sound_calls}
 use Rattle.flt_flash.specs.declared.blocks.BlockFault.TheVariants.{Flash, Damaged}
-use Rattle.flt_sector_model.specs.Blocks.{current, first_fault, fault_by, value_by, block_value}
+use Rattle.flt_sector_model.specs.Blocks.{Current, current, first_fault, fault_by, value_by, block_value}
 use Rattle.flt_pages.proofs.Begun.{holds_nothing}
 use Rattle.flt_fee.specs.Fee.{is_last, state_by}
+use Rattle.flt_pages.specs.declared.current.CurrentSector.{CurrentSector}
+use Rattle.flt_pages.specs.Told.{current_of}
 use Rattle.flt_pages.specs.LogHolds.{StandsAt}
 use Rattle.flt_fee.specs.Mounted.{IsMounted}
 use Rattle.flt_fee.proofs.Composed.{follows_by}
@@ -20,9 +22,6 @@ use Rattle.flt_fee.proofs.Standing.{stands_value, stands_sound, stands_mounted}
 module _ (used : ℕ) (numbers : List ℕ) (least : 2 ≤ used) where
   fresh_stands : (image : List (List (List ℕ))) → IsFresh used image → StandsAt used numbers image 0 1 2 (λ block. missing)
   fresh_stands image is = record { current = is.current; holds = holds_nothing used numbers (sector_at image 0) least is.blank }
-
-  pub fresh_mounted : (image : List (List (List ℕ))) → IsFresh used image → IsMounted false true used numbers image 0 1 2
-  fresh_mounted image is = stands_mounted true refl used numbers image 0 1 2 (λ block. missing) (fresh_stands image is)
 
   pub nothing_held : (image : List (List (List ℕ))) → HoldsNothing used image → (block : ℕ) → block_value used numbers image block ≡ missing
   nothing_held image is block = ⊎_elim (λ none. ap (value_by used numbers image block) none) (λ fresh. stands_value used numbers image 0 1 2 (λ b. missing) (fresh_stands image fresh) block) is
@@ -47,3 +46,9 @@ module _ (used : ℕ) (numbers : List ℕ) (least : 2 ≤ used) where
     formatting_calls runs was_stale had_mounted is_stale has_mounted result once = sound_calls result
         (follows_by used numbers before after runs was_stale had_mounted is_stale has_mounted once (λ yes. absurd (cc (ap is_last none, yes)))
         (λ sound. nothing_wrong after.image left) (λ place is. absurd (cc (nothing_wrong before.image (inl none), is)))) (nothing_wrong before.image (inl none))
+
+-- The driver that began the first sector knows its image.
+pub fresh_mounted : (at : CurrentSector) (numbers : List ℕ) (image : List (List (List ℕ))) → current_of at ≡ record { sector = 0; sequence = 1 } → IsFresh at.used image → IsMounted false true at numbers image 2
+fresh_mounted at numbers image first is =
+    stands_mounted true refl at numbers image 2 (λ block. missing)
+    (subst (λ (here : Current). StandsAt at.used numbers image here.sector here.sequence 2 (λ block. missing)) (sym first) (fresh_stands at.used numbers at.least image is))

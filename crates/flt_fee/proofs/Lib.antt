@@ -8,3 +8,4 @@ pub mod Putting
 pub mod Placed
 pub mod Costing
 pub mod Wearing
+pub mod Counted

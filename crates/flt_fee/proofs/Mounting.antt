@@ -1,5 +1,5 @@
 -- What a driver means after a call that only read.
-use Rattle.std.proofs.Common.{◌≡◌, ⊎_elim, ℕ, Bool, true, false, List, Option, Some, None, Result, Ok, Err, refl, sym, ◌∙◌, ap}
+use Rattle.std.proofs.Common.{◌≡◌, ⊎_elim, ℕ, Bool, true, false, List, Option, Some, None, Result, Ok, Err, refl, sym, ◌∙◌, ap, subst}
 use Rattle.std.specs.Prelude.{◌&&◌}
 use Rattle.flt_flash.specs.Image.{sector_at}
 use Rattle.flt_flash.specs.State.{FlashState, OnlyReads}
@@ -7,9 +7,9 @@ use Rattle.flt_flash.specs.Blocks.{BlocksState}
 use Rattle.flt_flash.specs.Calls.{Follows}
 use Rattle.flt_flash.specs.declared.blocks.BlockFault.{BlockFault}
 use Rattle.flt_sector_model.specs.Log.{LogFrom, log}
-use Rattle.flt_sector_model.specs.Blocks.{Current, current, first_fault, fault_by, place_in}
-use Rattle.flt_pages.specs.declared.sectors.CurrentSector.{CurrentSector}
-use Rattle.flt_pages.specs.Told.{TellsOrFails, current_of, told_current, told_end}
+use Rattle.flt_sector_model.specs.Blocks.{current, first_fault, fault_by, place_in}
+use Rattle.flt_pages.specs.declared.current.CurrentSector.{CurrentSector}
+use Rattle.flt_pages.specs.Told.{TellsOrFails, GivesCurrent, current_of, told_end}
 use Rattle.flt_fee.specs.Fee.{is_last, is_past, state_by}
 use Rattle.flt_fee.specs.Refusal.{KeepsStuck}
 use Rattle.flt_fee.specs.Mounted.{IsMounted}
@@ -20,19 +20,12 @@ end_told sector end found None tells = (refl, ⊎_elim (λ no. absurd (cc no)) (
 end_told sector end found (Some page) tells = ⊎_elim (λ no. absurd (cc no)) (λ no. absurd (cc no)) tells
 
 module _ (used : ℕ) (numbers : List ℕ) (before after : FlashState) (reads : OnlyReads before after) where
-  -- Where the current sector is known, the first fault is that of its log.
-  pub fault_there : (at : Current) → current used before.image ≡ Ok (Some at) → first_fault used numbers before.image ≡ place_in at.sector (log used numbers (sector_at before.image at.sector)).fault
-  fault_there at is = ap (fault_by used numbers before.image) is
-
-  -- The current sector, as it was told.
-  pub current_there : (at : CurrentSector) (answer : Option CurrentSector) → answer ≡ Some at → TellsOrFails {T = Option CurrentSector} (Ok answer) (told_current (current used before.image)) → current used after.image ≡ Ok (Some (current_of at))
-  current_there at answer is tells = ap (current used) reads.image ∙ by_found (current used before.image) tells
-    where
-      by_found : (found : Result (Option Current) (ℕ × ℕ)) → TellsOrFails {T = Option CurrentSector} (Ok answer) (told_current found) → found ≡ Ok (Some (current_of at))
-      by_found (Err place) told = ⊎_elim (λ no. absurd (cc no)) (λ no. absurd (cc no)) told
-      by_found (Ok None) told = ⊎_elim (λ no. absurd (cc no)) (λ none. absurd (cc (none, is))) told
-      by_found (Ok (Some found)) told =
-          ⊎_elim (λ no. absurd (cc no)) (λ same. let there : record { sector = found.sector; sequence = found.sequence } ≡ at = cc (same, is) in ap (λ (a : CurrentSector). Ok (Some (current_of a))) there) told
+  -- The current sector, as it was given.
+  pub current_there : (at : CurrentSector) (answer : Option CurrentSector) → answer ≡ Some at → GivesCurrent used (Ok answer) (current used before.image)
+      → (current used after.image ≡ Ok (Some (current_of at))) × (at.used ≡ used)
+  current_there at answer is given =
+      let found = subst (λ (o : Option CurrentSector). GivesCurrent used (Ok o) (current used before.image)) is given in
+      (ap (current used) reads.image ∙ found.0, found.1)
 
   pub reading_follows : (was_stale had_mounted is_stale has_mounted : Bool) → (had_mounted ≡ true → has_mounted ≡ true)
       → Follows (state_by used numbers was_stale had_mounted before) (state_by used numbers is_stale has_mounted after)
@@ -40,24 +33,24 @@ module _ (used : ℕ) (numbers : List ℕ) (before after : FlashState) (reads : 
       follows_by used numbers before after reads.runs was_stale had_mounted is_stale has_mounted once (λ yes. ap (λ (image : List (List (List ℕ))). is_last (current used image)) reads.image ∙ yes)
       (λ none. ap (first_fault used numbers) reads.image ∙ none) (λ place is. reads.image)
 
-  -- The log was found to end here.
-  module _ (at : Current) (here : current used before.image ≡ Ok (Some at)) where
-    abbrev whole : LogFrom
-    whole = log used numbers (sector_at before.image at.sector)
+-- The log of the current sector was found to end here.
+module _ (at : CurrentSector) (numbers : List ℕ) (before after : FlashState) (reads : OnlyReads before after) (here : current at.used before.image ≡ Ok (Some (current_of at))) where
+  abbrev whole : LogFrom
+  whole = log at.used numbers (sector_at before.image at.sector)
 
-    pub sound_there : (end : ℕ) → TellsOrFails {T = ℕ} (Ok end) (told_end at.sector whole.end whole.fault) → first_fault used numbers before.image ≡ None
-    sound_there end tells = fault_there at here ∙ ap (place_in at.sector) (end_told at.sector whole.end end whole.fault tells).0
+  pub sound_there : (end : ℕ) → TellsOrFails {T = ℕ} (Ok end) (told_end at.sector whole.end whole.fault) → first_fault at.used numbers before.image ≡ None
+  sound_there end tells = ap (fault_by at.used numbers before.image) here ∙ ap (place_in at.sector) (end_told at.sector whole.end end whole.fault tells).0
 
-    pub resumed : (end : ℕ) → TellsOrFails {T = ℕ} (Ok end) (told_end at.sector whole.end whole.fault) → IsMounted false true used numbers after.image at.sector at.sequence end
-    resumed end tells =
-        let found = end_told at.sector whole.end end whole.fault tells in
-        record {
-          mounted = λ fresh. refl;
-          current = λ fresh. ap (current used) reads.image ∙ here;
-          sound = λ fresh. ap (λ (image : List (List (List ℕ))). (log used numbers (sector_at image at.sector)).fault) reads.image ∙ found.0;
-          undamaged = λ yes. ap (first_fault used numbers) reads.image ∙ sound_there end tells;
-          ends = λ fresh. ap (λ (image : List (List (List ℕ))). (log used numbers (sector_at image at.sector)).end) reads.image ∙ found.1;
-        }
+  pub resumed : (end : ℕ) → TellsOrFails {T = ℕ} (Ok end) (told_end at.sector whole.end whole.fault) → IsMounted false true at numbers after.image end
+  resumed end tells =
+      let found = end_told at.sector whole.end end whole.fault tells in
+      record {
+        mounted = λ fresh. refl;
+        current = λ fresh. ap (current at.used) reads.image ∙ here;
+        sound = λ fresh. ap (λ (image : List (List (List ℕ))). (log at.used numbers (sector_at image at.sector)).fault) reads.image ∙ found.0;
+        undamaged = λ yes. ap (first_fault at.used numbers) reads.image ∙ sound_there end tells;
+        ends = λ fresh. ap (λ (image : List (List (List ℕ))). (log at.used numbers (sector_at image at.sector)).end) reads.image ∙ found.1;
+      }
 
 -- The records that are stuck, after a look.
 pub stuck_on : (used : ℕ) (numbers : List ℕ) (before middle : FlashState) → middle.image ≡ before.image → (was_stale had_mounted is_stale has_mounted : Bool) (third : BlocksState) (result : Result (Unit {0}) BlockFault)

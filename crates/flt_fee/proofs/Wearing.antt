@@ -58,6 +58,6 @@ unless_fault before after (Err (Full l n)) fact calls is none = is
 unless_fault before after (Err SequenceSpent) fact calls is none = is
 unless_fault before after (Err (Damaged s p)) fact calls is none = is
 
--- The used pages are told by the room.
+-- The used pages follow from the room.
 pub used_same : (one two : ℕ) → 4 ≤ one → 4 ≤ two → ◌≡◌ {A = Option ℕ} (Some (one - 2)) (Some (two - 2)) → one ≡ two
 used_same one two first second same = (let e : one - 2 ≡ two - 2 = cc same in omega (arith, e, first, second))

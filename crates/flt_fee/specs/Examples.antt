@@ -10,7 +10,7 @@ use Rattle.flt_fee.specs.Fee.{state_by}
 use Rattle.flt_fee.specs.Refusal.{record_refusal}
 
 -- A driver of the blocks 8 and 9 that has mounted, over sectors of 12 pages. The current sector has this number, and two records of 32
--- bytes: of block 8, and of this block. So four pages are left behind its log, and each block that it holds has three of the ten for records.
+-- bytes: of block 8, and of this block. So four pages are left after its log, and each block that it holds has three of the ten for records.
 abbrev pub with_two : ℕ → ℕ → BlocksState
 with_two sequence block =
     state_by 12 (8 ∷ 9 ∷ []) false true
@@ -20,7 +20,7 @@ with_two sequence block =
     ∷ says (Head block 32 true 5) ∷ piece (replicate 32 2) ∷ says (Gate block 5) ∷ []))
     0)
 
--- By what a record of block 9 is refused, of 64 bytes, which fits behind the log, of 65 and of 97, which don't.
+-- By what a record of block 9 is refused, of 64 bytes, which fits after the log, of 65 and of 97, which don't.
 abbrev pub refusals : BlocksState → List (Option BlockFault)
 refusals state = map (record_refusal state 9) (64 ∷ 65 ∷ 97 ∷ [])
 

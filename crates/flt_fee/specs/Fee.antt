@@ -13,7 +13,7 @@ is_last (Ok (Some at)) = at.sequence == 2 ^ 32 - 1
 is_last (Ok None) = false
 is_last (Err place) = false
 
--- A record of this length does not fit behind the log of the current sector.
+-- A record of this length does not fit after the log of the current sector.
 abbrev pub is_past : ℕ → List ℕ → List (List (List ℕ)) → ℕ → Result (Option Current) (ℕ × ℕ) → Bool
 is_past used numbers image size (Ok (Some at)) = not (nat_le ((log used numbers (sector_at image at.sector)).end + record_pages size) used)
 is_past used numbers image size (Ok None) = false
@@ -37,7 +37,7 @@ state_by used numbers is_stale has_mounted flash = record {
 
 -- The driver but for what it keeps of its calls.
 abbrev pub uncounted_of : {F : Type 0} {g : _} → (F → FlashState) → Fee F g → BlocksState
-uncounted_of state fee = state_by fee.used fee.numbers fee.is_stale fee.has_mounted (state fee.flash)
+uncounted_of state fee = state_by fee.at.used fee.numbers fee.is_stale fee.has_mounted (state fee.flash)
 
 -- The driver as the layers above see it.
 abbrev pub fee_state : {F : Type 0} {g : _} → (F → FlashState) → Fee F g → BlocksState

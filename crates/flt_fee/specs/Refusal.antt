@@ -9,7 +9,7 @@ abbrev pub is_less : Option ℕ → ℕ → Bool
 is_less None pages = false
 is_less (Some room) pages = nat_lt room pages
 
--- The fault by which a record that needs so many pages is refused, if it is: for lack of room, or else of sequence numbers.
+-- The fault by which a record that needs this many pages is refused, if it is: for lack of room, or else of sequence numbers.
 abbrev pub refusal_by : Option ℕ → ℕ → ℕ → Bool → Option BlockFault
 refusal_by room live needed stuck = if is_less room (live + needed) then Some (Full live needed) else if stuck then Some SequenceSpent else None
 

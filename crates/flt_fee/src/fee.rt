@@ -18,8 +18,8 @@ ghost use Rattle.flt_fee.specs.Wear.{StaysEven, UnlessFlash};
 
 use flt_flash::{Arm, Bench, BlockFault, Blocks, Flash, Found, Refused, Tally};
 use flt_pages::{
-    Numbers, RecordPlace, append_record, byte_pages, current_sector, find_places, forget,
-    live_pages, note, place_of, read_record, set_up_flash, switch_sectors,
+    CurrentSector, Numbers, RecordPlace, append_record, byte_pages, current_sector, find_places,
+    forget, live_pages, note, place_of, read_record, set_up_flash, switch_sectors,
 };
 use std::alloc::{AllocError, Global};
 
@@ -47,52 +47,49 @@ fn tables(
     Ok((numbers, places))
 }
 
-/// Blocks of 1 to 128 bytes in the records of two sectors, of which it uses the first `used` pages each.
+/// Blocks of 1 to 128 bytes in the records of two sectors, of which it uses the same number of pages each, from the first one.
 ///
-/// It keeps the current sector, its sequence number, the page where its log ends, the place of each block's current record, a
-/// count of its calls, and the block of the last one that the flash failed. A mount looks at the log once, and no other call looks at it.
-/// Its room is `used - 2` pages. It is spent where the sequence number is 2^32 - 1, and a record is stuck where it is spent
-/// and the record does not fit behind the log.
+/// It keeps the current sector with its used pages and its sequence number, the page where its log ends, the place of each block's
+/// current record, a count of its calls, and the block of the last one that the flash failed. A mount looks at the log once, and no
+/// other call looks at it. Its room is two pages less than the used ones. It is spent where the sequence number is 2^32 - 1, and a
+/// record is stuck where it is spent and the record does not fit after the log.
 #[derive(Drop)]
 pub struct Fee<F: Flash> {
     flash: F,
-    used: u16,
+    at: CurrentSector,
     numbers: Numbers,
     is_stale: bool,
     has_mounted: bool,
     tally: Tally,
-    sector: u8,
-    sequence: u32,
     end: u16,
     places: Vec<Option<RecordPlace>>,
-    ghost within: { used ≤ (F.state flash).pages },
-    ghost least: { 4 ≤ used },
-    ghost sectors: { sector < 2 },
+    ghost within: { at.used ≤ (F.state flash).pages },
+    ghost least: { 4 ≤ at.used },
     ghost distinct: { AllPairs (λ a b. a ≢ b) numbers },
     ghost sized: { length places.items ≡ length numbers },
-    ghost mounted: { IsMounted is_stale has_mounted used numbers (F.state flash).image sector sequence end },
-    ghost table: { IsFalse is_stale → TellsPlaces numbers places.items (sector_at (F.state flash).image sector) end
-        (block_value used numbers (F.state flash).image) } by { Prim.hlevel props },
+    ghost mounted: { IsMounted is_stale has_mounted at numbers (F.state flash).image end },
+    ghost table: { IsFalse is_stale → TellsPlaces numbers places.items (sector_at (F.state flash).image at.sector) end
+        (block_value at.used numbers (F.state flash).image) } by { Prim.hlevel props },
 }
 
 impl<F: Flash> Fee<F> {
     ghost use Rattle.flt_fee.specs.Fee.{state_by, fee_state, uncounted_of};
     ghost use Rattle.flt_fee.specs.Stored.{CanBeStored, IsPartOfCall, IsPartOfMount, RefusesRecord, StoresRecord};
 
-    /// Appends a record behind the log, where it fits.
+    /// Appends a record after the log, where it fits.
     fn append(&mut self, block: u16, bytes: &[u8], valid: bool) -> Result<(), BlockFault>
         requires not_stale { IsFalse (uncounted_of F.state self.old).is_stale }
         requires can { CanBeStored (uncounted_of F.state self.old).numbers block (length bytes.now) valid }
-        requires room { self.old.end + 2 + byte_pages (length bytes.now) ≤ self.old.used }
+        requires room { self.old.end + 2 + byte_pages (length bytes.now) ≤ self.old.at.used }
         ensures changes { Changes (uncounted_of F.state self.old) (uncounted_of F.state self.new) block (record_content valid bytes.now) (length bytes.now) result }
         ensures part { IsPartOfCall F.state self.old self.new result }
         ensures never_full { NeverFull result }
         ensures spends { OnOk result (SpendsAtMost (record_pages (length bytes.now)) (F.state self.old.flash) (F.state self.new.flash)) }
-        ensures even { StaysEven self.old.used (F.state self.old.flash) (F.state self.new.flash) }
+        ensures even { StaysEven self.old.at.used (F.state self.old.flash) (F.state self.new.flash) }
     {
         let page = self.end;
         self.is_stale = true;
-        append_record(&mut self.flash, self.sector, page, block, bytes, valid)?;
+        append_record(&mut self.flash, self.at.sector, page, block, bytes, valid)?;
         let length = bytes.len() as u16;
         let place = RecordPlace {
             page,
@@ -107,16 +104,19 @@ impl<F: Flash> Fee<F> {
 
     /// Begins the first sector: the mount of a flash of which no sector is valid.
     fn format(&mut self) -> Result<(), BlockFault>
-        requires { current self.old.used (F.state self.old.flash).image ≡ Ok None }
+        requires { current self.old.at.used (F.state self.old.flash).image ≡ Ok None }
         ensures mounts { IsPartOfMount F.state self.old self.new result }
         ensures operations { (F.state self.new.flash).operations ≤ (F.state self.old.flash).operations + 3 }
-        ensures even { UnlessFlash result (StaysEven self.old.used (F.state self.old.flash) (F.state self.new.flash)) }
+        ensures even { UnlessFlash result (StaysEven self.old.at.used (F.state self.old.flash) (F.state self.new.flash)) }
     {
         self.is_stale = true;
-        set_up_flash(&mut self.flash, self.used)?;
+        set_up_flash(&mut self.flash, self.at.used)?;
         forget(&mut self.places);
-        self.sector = 0;
-        self.sequence = 1;
+        self.at = CurrentSector {
+            sector: 0,
+            used: self.at.used,
+            sequence: 1,
+        };
         self.end = 2;
         self.has_mounted = true;
         self.is_stale = false;
@@ -126,22 +126,15 @@ impl<F: Flash> Fee<F> {
     /// Looks at the flash as a power-up left it.
     fn look(&mut self) -> Result<(), BlockFault>
         ensures mounts { IsPartOfMount F.state self.old self.new result }
-        ensures operations { (F.state self.new.flash).operations ≤ (F.state self.old.flash).operations + (self.old.used + 3) }
-        ensures even { UnlessFlash result (StaysEven self.old.used (F.state self.old.flash) (F.state self.new.flash)) }
+        ensures operations { (F.state self.new.flash).operations ≤ (F.state self.old.flash).operations + (self.old.at.used + 3) }
+        ensures even { UnlessFlash result (StaysEven self.old.at.used (F.state self.old.flash) (F.state self.new.flash)) }
     {
         self.is_stale = true;
-        match current_sector(&mut self.flash, self.used)? {
+        match current_sector(&mut self.flash, self.at.used)? {
             None => self.format(),
             Some(at) => {
-                let end = find_places(
-                    &mut self.flash,
-                    at.sector,
-                    self.used,
-                    &self.numbers,
-                    &mut self.places,
-                )?;
-                self.sector = at.sector;
-                self.sequence = at.sequence;
+                let end = find_places(&mut self.flash, at, &self.numbers, &mut self.places)?;
+                self.at = at;
                 self.end = end;
                 self.has_mounted = true;
                 self.is_stale = false;
@@ -155,7 +148,7 @@ impl<F: Flash> Fee<F> {
         ensures mounts { IsPartOfMount F.state self.old self.new result }
         ensures kept { IsFalse (uncounted_of F.state self.old).is_stale → IsFalse (uncounted_of F.state self.new).is_stale }
         ensures nothing { IsFalse (uncounted_of F.state self.old).is_stale → (result ≡ Ok tt) × (self.new ≡ self.old) }
-        ensures even { UnlessFlash result (StaysEven self.old.used (F.state self.old.flash) (F.state self.new.flash)) }
+        ensures even { UnlessFlash result (StaysEven self.old.at.used (F.state self.old.flash) (F.state self.new.flash)) }
     {
         if self.is_stale { self.look() } else { Ok(()) }
     }
@@ -171,52 +164,48 @@ impl<F: Flash> Fee<F> {
     /// Makes the other sector the current one, with a copy of all that the blocks hold.
     fn switch(&mut self) -> Result<(), BlockFault>
         requires not_stale { IsFalse (uncounted_of F.state self.old).is_stale }
-        requires next { self.old.sequence + 1 < 2 ^ 32 }
-        requires room { 2 + live_pages (uncounted_of F.state self.old) ≤ self.old.used }
-        ensures moves { OnOk result (MovesRecords (live_pages (uncounted_of F.state self.old)) self.old.sector self.new.end (F.state self.old.flash)
+        requires next { self.old.at.sequence + 1 < 2 ^ 32 }
+        requires room { 2 + live_pages (uncounted_of F.state self.old) ≤ self.old.at.used }
+        ensures moves { OnOk result (MovesRecords (live_pages (uncounted_of F.state self.old)) self.old.at.sector self.new.end (F.state self.old.flash)
             (F.state self.new.flash)) }
         ensures values { SameValues (uncounted_of F.state self.old) (uncounted_of F.state self.new) }
         ensures part { IsPartOfCall F.state self.old self.new result }
         ensures never_full { NeverFull result }
-        ensures even { UnlessFlash result (StaysEven self.old.used (F.state self.old.flash) (F.state self.new.flash)) }
+        ensures even { UnlessFlash result (StaysEven self.old.at.used (F.state self.old.flash) (F.state self.new.flash)) }
     {
         self.is_stale = true;
-        let end = switch_sectors(
-            &mut self.flash,
-            self.used,
-            &self.numbers,
-            &mut self.places,
-            self.sector,
-            self.sequence,
-        )?;
-        self.sector = 1 - self.sector;
-        self.sequence += 1;
+        let end = switch_sectors(&mut self.flash, self.at, &self.numbers, &mut self.places)?;
+        self.at = CurrentSector {
+            sector: 1 - self.at.sector,
+            used: self.at.used,
+            sequence: self.at.sequence + 1,
+        };
         self.end = end;
         self.is_stale = false;
         Ok(())
     }
 
-    /// Makes room behind the log for a record of this length, by a switch where it does not fit.
+    /// Makes room after the log for a record of this length, by a switch where it does not fit.
     fn make_room(&mut self, block: u16, size: u16) -> Result<(), BlockFault>
         requires not_stale { IsFalse (uncounted_of F.state self.old).is_stale }
         requires most { size ≤ 128 }
-        ensures room { OnOk result (self.new.end + record_pages size ≤ self.new.used) }
-        ensures made { OnOk result (MakesRoom self.old.used self.old.end (live_pages (uncounted_of F.state self.old)) size self.old.sector
+        ensures room { OnOk result (self.new.end + record_pages size ≤ self.new.at.used) }
+        ensures made { OnOk result (MakesRoom self.old.at.used self.old.end (live_pages (uncounted_of F.state self.old)) size self.old.at.sector
             (F.state self.old.flash) (F.state self.new.flash)) }
         ensures refuses { RefusesRecord (uncounted_of F.state self.old) (uncounted_of F.state self.new) (F.state self.old.flash) (F.state self.new.flash) block
             size result }
         ensures values { SameValues (uncounted_of F.state self.old) (uncounted_of F.state self.new) }
         ensures part { IsPartOfCall F.state self.old self.new result }
-        ensures even { UnlessFlash result (StaysEven self.old.used (F.state self.old.flash) (F.state self.new.flash)) }
+        ensures even { UnlessFlash result (StaysEven self.old.at.used (F.state self.old.flash) (F.state self.new.flash)) }
     {
         let needed = 2 + byte_pages(size);
-        if needed <= self.used - self.end {
+        if needed <= self.at.used - self.end {
             return Ok(());
         }
         let live = self.live();
-        if needed > self.used - 2 - live {
+        if needed > self.at.used - 2 - live {
             Err(BlockFault::Full { live, needed })
-        } else if self.sequence == u32::MAX {
+        } else if self.at.sequence == u32::MAX {
             Err(BlockFault::SequenceSpent)
         } else {
             self.switch()
@@ -228,9 +217,9 @@ impl<F: Flash> Fee<F> {
         requires can { CanBeStored (uncounted_of F.state self.old).numbers block (length bytes.now) valid }
         ensures changes { Changes (uncounted_of F.state self.old) (uncounted_of F.state self.new) block (record_content valid bytes.now) (length bytes.now) result }
         ensures part { IsPartOfCall F.state self.old self.new result }
-        ensures stored { StoresRecord self.old.used (uncounted_of F.state self.old) (uncounted_of F.state self.new) block (length bytes.now) result }
+        ensures stored { StoresRecord self.old.at.used (uncounted_of F.state self.old) (uncounted_of F.state self.new) block (length bytes.now) result }
         ensures costs { Costs (uncounted_of F.state self.old) (uncounted_of F.state self.new) (length bytes.now) }
-        ensures even { UnlessFlash result (StaysEven self.old.used (F.state self.old.flash) (F.state self.new.flash)) }
+        ensures even { UnlessFlash result (StaysEven self.old.at.used (F.state self.old.flash) (F.state self.new.flash)) }
     {
         self.settle()?;
         self.make_room(block, bytes.len() as u16)?;
@@ -241,7 +230,7 @@ impl<F: Flash> Fee<F> {
     fn place(&self, block: u16) -> Option<RecordPlace>
         requires not_stale { IsFalse (uncounted_of F.state self.now).is_stale }
         requires number { Contains (uncounted_of F.state self.now).numbers block }
-        ensures { IsAt (sector_at (F.state self.now.flash).image self.now.sector) self.now.used ((uncounted_of F.state self.now).value block) result }
+        ensures { IsAt (sector_at (F.state self.now.flash).image self.now.at.sector) self.now.at.used ((uncounted_of F.state self.now).value block) result }
     {
         place_of(&self.numbers, &self.places, block)
     }
@@ -254,13 +243,13 @@ impl<F: Flash> Fee<F> {
         ensures reads { ReadsAlone (uncounted_of F.state self.old) (uncounted_of F.state self.new) result }
         ensures count { self.new.tally ≡ self.old.tally }
         ensures costs { ReadCosts (uncounted_of F.state self.old) (uncounted_of F.state self.new) block }
-        ensures even { UnlessFlash result (StaysEven self.old.used (F.state self.old.flash) (F.state self.new.flash)) }
+        ensures even { UnlessFlash result (StaysEven self.old.at.used (F.state self.old.flash) (F.state self.new.flash)) }
     {
         self.settle()?;
         match self.place(block) {
             None => Ok(Found::Missing),
             Some(place) if place.valid => {
-                read_record(&mut self.flash, self.sector, place, out)?;
+                read_record(&mut self.flash, self.at.sector, place, out)?;
                 Ok(Found::Bytes(place.length as usize))
             }
             Some(_) => Ok(Found::Invalid),
@@ -282,20 +271,22 @@ impl<F: Flash> Fee<F> {
             Err(AllocError) => Err(Refused { device: flash }),
             Ok((numbers, places)) => Ok(Fee {
                 flash,
-                used,
+                at: CurrentSector {
+                    sector: 0,
+                    used,
+                    sequence: 0,
+                },
                 numbers,
                 is_stale: true,
                 has_mounted: false,
                 tally: Tally::none(),
-                sector: 0,
-                sequence: 0,
                 end: 0,
                 places,
             }),
         }
     }
 
-    /// The flash, as the driver left it: what the driver told of its device holds of it, and each sector has the pages that the
+    /// The flash, as the driver left it: what the driver said of its device is true of it, and each sector has the pages that the
     /// driver used, two more than its room.
     pub fn retire(self) -> F
         ensures device { device_of (F.state result) ≡ (fee_state F.state self).device }
@@ -309,7 +300,7 @@ impl<F: Bench> Blocks for Fee<F> {
     ghost use Rattle.flt_pages.proofs.Short.{value_is_short};
     ghost use Rattle.flt_fee.specs.Fee.{fee_state};
     ghost use Rattle.flt_fee.specs.Refusal.{first_holds};
-    ghost use Rattle.flt_fee.specs.Stored.{StoresRecord, WearsEvenly};
+    ghost use Rattle.flt_fee.specs.Stored.{StoresOnSectors, WearsEvenly};
 
     ghost state = { fee_state F.state };
 
@@ -319,7 +310,7 @@ impl<F: Bench> Blocks for Fee<F> {
 
     ghost mounted_is_sound = { λ driver. driver.mounted.undamaged };
 
-    ghost bytes_are_short = { λ driver block. value_is_short driver.used driver.numbers (F.state driver.flash).image block };
+    ghost bytes_are_short = { λ driver block. value_is_short driver.at.used driver.numbers (F.state driver.flash).image block };
 
     fn mount(&mut self) -> Result<(), BlockFault>
         ensures values { SameValues (fee_state F.state self.old) (fee_state F.state self.new) }
@@ -345,13 +336,10 @@ impl<F: Bench> Blocks for Fee<F> {
         ensures calls { BlockCalls (fee_state F.state self.old) (fee_state F.state self.new) result }
         ensures once { CountsCallOf block (fee_state F.state self.old) (fee_state F.state self.new) result }
         ensures stale { Settles result (fee_state F.state self.new) }
-        ensures costs { Costs (fee_state F.state self.old) (fee_state F.state self.new) (length bytes.now) }
 
-        // It is refused exactly where there is no room or no number for it, and costs no switch where its record fits behind the log.
-        ensures stored { StoresRecord self.old.used (fee_state F.state self.old) (fee_state F.state self.new) block (length bytes.now) result }
-
+        // It is refused exactly where there is no room or no number for it, and it costs no switch where its record fits after the log.
         // The sectors wear evenly.
-        ensures even { WearsEvenly F.state self.old self.new }
+        ensures sectors { StoresOnSectors F.state self.old self.new block (length bytes.now) result }
     {
         self.tally.count();
         let answer = self.put(block, bytes, true);
@@ -392,13 +380,10 @@ impl<F: Bench> Blocks for Fee<F> {
         ensures calls { BlockCalls (fee_state F.state self.old) (fee_state F.state self.new) result }
         ensures once { CountsCallOf block (fee_state F.state self.old) (fee_state F.state self.new) result }
         ensures stale { Settles result (fee_state F.state self.new) }
-        ensures costs { Costs (fee_state F.state self.old) (fee_state F.state self.new) 0 }
 
-        // It is refused exactly where there is no room or no number for it, and costs no switch where its record fits behind the log.
-        ensures stored { StoresRecord self.old.used (fee_state F.state self.old) (fee_state F.state self.new) block 0 result }
-
+        // It is refused exactly where there is no room or no number for it, and it costs no switch where its record fits after the log.
         // The sectors wear evenly.
-        ensures even { WearsEvenly F.state self.old self.new }
+        ensures sectors { StoresOnSectors F.state self.old self.new block 0 result }
     {
         self.tally.count();
         let answer = self.put(block, &[], false);
@@ -407,7 +392,7 @@ impl<F: Bench> Blocks for Fee<F> {
     }
 
     fn spent(&self) -> bool {
-        self.sequence == u32::MAX
+        self.at.sequence == u32::MAX
     }
 
     fn boots_left(&self) -> u16 {

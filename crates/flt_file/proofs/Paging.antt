@@ -1,4 +1,4 @@
--- What the pages in bytes are behind a splice of pages, and where the bytes are torn.
+-- What the pages in bytes are after a splice of pages, and where the bytes are torn.
 use Rattle.std.proofs.Common.{◌≡◌, ◌≢◌, ◌⊎◌, inl, inr, ◌<◌, ◌≤◌, ◌+◌, ◌*◌, ℕ, zero, suc, List, [], ◌∷◌, length, drop, get_or, set, length-set, get_or-set_same, get_or-set_other, replicate, refl, sym, ◌∙◌, ap, subst, arith}
 use Rattle.std.proofs.lemmas.List.{ext_get_or, length-take-le, length-drop, get_or-take, get_or-drop, get_or-replicate, length-replicate}
 use Rattle.std.proofs.lemmas.List.FromFn.{length-map-range_with_len, get_or-map-range_with_len}
@@ -120,7 +120,7 @@ sector_blank from pages held fits =
     ∙ blank
     ∙ sym (get_or-replicate pages j blank_page [] small))
 
--- The image of a flash behind a program and behind an erase.
+-- The image of a flash after a program and after an erase.
 module _ (pages : ℕ) (held : List ℕ) (size : length held ≡ 64 * pages) where
   pub image_programmed : (sector p : ℕ) (b : List ℕ) → sector < 2 → p < pages → length b ≡ 32
       → image_in pages (spliced (32 * (sector * pages + p)) b held) ≡ programmed (image_in pages held) sector p b
@@ -156,7 +156,7 @@ module _ (pages : ℕ) (held : List ℕ) (size : length held ≡ 64 * pages) whe
       (sector_blank pages pages held (omega (arith, size)) ∙ ap (λ m. replicate m blank_page) (sym second_size))
   image_erased (suc (suc sector)) lt_sector = absurd (omega arith)
 
--- The units of an EEPROM behind a write.
+-- The units of an EEPROM after a write.
 pub units_written : (units : ℕ) (held : List ℕ) → length held ≡ 32 * units → (u : ℕ) (b : List ℕ) → u < units → length b ≡ 32
     → units_in units (spliced (32 * u) b held) ≡ with_unit (units_in units held) u b
 units_written units held size u b lt long =

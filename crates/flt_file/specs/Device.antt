@@ -7,7 +7,7 @@ use Rattle.flt_file.specs.Kept.{KeptState, KeptBoot}
 abbrev pub boot_by : (List ℕ → List (List (List ℕ))) → KeptBoot → PowerUp
 boot_by image boot = record { faults = boot.faults; image = image boot.bytes }
 
--- A device of so many pages, whose image this layout gives, with these counts of erases. It tells no arm, and none stands.
+-- A device of this many pages, whose image this layout gives, with these counts of erases. Its arms are not known, and none remains.
 abbrev pub device_by : ℕ → (List ℕ → List (List (List ℕ))) → List ℕ → KeptState → FlashState
 device_by pages image wear kept = record {
   pages = pages;

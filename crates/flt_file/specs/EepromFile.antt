@@ -11,7 +11,7 @@ use Rattle.flt_file.specs.declared.eeprom.EepromFile.{EepromFile}
 abbrev pub eeprom_file_state : {B : Type 0} {g : _} → (B → Option (List ℕ)) → EepromFile B g → FlashState
 eeprom_file_state told device = device_by device.units (units_in device.units) [] (kept_of told device.kept)
 
--- An EEPROM of so many units that was just opened: it is off, and its power may come once.
+-- An EEPROM of this many units that was just opened: it is off, and its power may come once.
 abbrev pub first_eeprom : ℕ → List ℕ → FlashState
 first_eeprom units bytes = device_by units (units_in units) [] (first_kept bytes)
 

@@ -1,4 +1,4 @@
--- What the bytes of a file tell: nothing, since no contract can say which bytes the system keeps.
+-- What the bytes of a file reveal: nothing, since no contract can say which bytes the system keeps.
 use Rattle.std.specs.Prelude.{ℕ, List, Option, None}
 use Rattle.flt_file.specs.declared.file.FileBytes.{FileBytes}
 

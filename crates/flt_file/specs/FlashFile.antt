@@ -11,7 +11,7 @@ use Rattle.flt_file.specs.declared.flash.FlashFile.{FlashFile}
 abbrev pub flash_file_state : {B : Type 0} {g : _} → (B → Option (List ℕ)) → FlashFile B g → FlashState
 flash_file_state told flash = device_by flash.pages (image_in flash.pages) (flash.first_wear ∷ flash.second_wear ∷ []) (kept_of told flash.kept)
 
--- A flash of two sectors of so many pages that was just opened: it is off, and its power may come once.
+-- A flash of two sectors of this many pages that was just opened: it is off, and its power may come once.
 abbrev pub first_flash : ℕ → List ℕ → FlashState
 first_flash pages bytes = device_by pages (image_in pages) (0 ∷ 0 ∷ []) (first_kept bytes)
 

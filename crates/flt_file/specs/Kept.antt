@@ -1,4 +1,4 @@
--- Bytes of a device that a store keeps, and what each operation on them does, whatever the bytes stand for.
+-- Bytes of a device that a store keeps, and what each operation on them does, whatever the bytes mean.
 use Rattle.std.specs.Prelude.{◌≡◌, ℕ, ◌-◌, Bool, true, false, List, [], ◌∷◌, ◌++◌, Result, IsTrue, IsErr, OnErr, length}
 use Rattle.flt_flash.specs.State.{HasRisenBy, counted_up}
 use Rattle.flt_flash.specs.declared.flash.FlashFailed.{FlashFailed}

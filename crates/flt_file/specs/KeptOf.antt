@@ -4,7 +4,7 @@ use Rattle.flt_file.specs.Kept.{KeptState}
 use Rattle.flt_file.specs.Stage.{is_off, boots_at, boots_left_at}
 use Rattle.flt_file.specs.declared.kept.Kept.{Kept}
 
--- Its bytes are those that the store tells, or else those of the copy in memory.
+-- Its bytes are those that the store reveals, or else those of the copy in memory.
 abbrev pub kept_of : {B : Type 0} {g : _} → (B → Option (List ℕ)) → Kept B g → KeptState
 kept_of told kept = record {
   bytes = unwrap_or (told kept.store) kept.bytes.items;

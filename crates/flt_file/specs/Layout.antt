@@ -1,4 +1,4 @@
--- Where the pages of a device are in its bytes: page behind page, sector 1 behind sector 0.
+-- Where the pages of a device are in its bytes: page after page, sector 1 after sector 0.
 use Rattle.std.specs.Prelude.{ℕ, ◌*◌, List, [], ◌∷◌, take, drop, map}
 use Rattle.std.specs.List.{range_with_len}
 
@@ -6,14 +6,14 @@ use Rattle.std.specs.List.{range_with_len}
 abbrev pub page_in : List ℕ → ℕ → List ℕ
 page_in held number = take 32 (drop (32 * number) held)
 
--- So many pages, from this number on.
+-- This many pages, from this number on.
 abbrev pub pages_in : List ℕ → ℕ → ℕ → List (List ℕ)
 pages_in held from pages = map (page_in held) (range_with_len from pages)
 
--- A flash of two sectors of so many pages.
+-- A flash of two sectors of this many pages.
 abbrev pub image_in : ℕ → List ℕ → List (List (List ℕ))
 image_in pages held = pages_in held 0 pages ∷ pages_in held pages pages ∷ []
 
--- An EEPROM of so many units.
+-- An EEPROM of this many units.
 abbrev pub units_in : ℕ → List ℕ → List (List (List ℕ))
 units_in units held = pages_in held 0 units ∷ []

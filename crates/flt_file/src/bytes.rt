@@ -44,7 +44,7 @@ impl From<StoreFault> for LoadFault {
 
 /// Bytes that outlive the process, as many at each moment: what was written is kept before the call answers `Ok`.
 pub trait ByteStore {
-    /// The bytes that it keeps, where it tells them.
+    /// The bytes that it keeps, where they are known.
     ghost told: { Self → Option (List ℕ) };
 
     /// Reads all bytes: what it answers `Ok` for is kept. After a failure nothing is said of `out`.
@@ -53,7 +53,7 @@ pub trait ByteStore {
         ensures read { OnOk result (IfSome (told self.old) (λ held. out.new ≡ held)) }
         ensures told { told self.new ≡ told self.old };
 
-    /// Writes these bytes over those that stand from a place on. After a failure each of their bits is as before or as asked, and every
+    /// Writes these bytes over those from a place on. After a failure each of their bits is as before or as asked, and every
     /// other one as before.
     fn write(&mut self, at: usize, bytes: &[u8]) -> Result<(), StoreFault>
         requires { IfSome (told self.old) (λ held. at + length bytes.now ≤ length held) }

@@ -12,11 +12,11 @@ use flt_ea::Eeprom;
 use flt_flash::{Arm, FlashFailed};
 use std::alloc::Global;
 
-/// An EEPROM of units of 32 bytes, in the bytes of a store: unit behind unit. Nothing else is in them.
+/// An EEPROM of units of 32 bytes, in the bytes of a store: unit after unit. Nothing else is in them.
 ///
 /// It has one life: it is off until its one power-up. When its store fails, the write answers `FlashFailed` and the device goes off for
 /// good; what the store then keeps of the unit is between what was and what was asked. To go on, open it again. An arm has no effect, and
-/// is not told.
+/// is not known.
 #[derive(Drop)]
 pub struct EepromFile<B: ByteStore> {
     kept: Kept<B>,
@@ -28,7 +28,7 @@ pub struct EepromFile<B: ByteStore> {
 impl<B: ByteStore + Drop> EepromFile<B> {
     ghost use Rattle.flt_file.specs.EepromFile.{eeprom_file_state, unit_bytes, first_eeprom};
 
-    /// The EEPROM of so many units that the bytes of this store are. It is off, and its power may come once.
+    /// The EEPROM of this many units that the bytes of this store are. It is off, and its power may come once.
     ///
     /// # Errors
     ///

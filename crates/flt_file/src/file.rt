@@ -4,7 +4,7 @@ use crate::{ByteStore, StoreFault};
 use std::fs::File;
 use std::os::unix::fs::FileExt;
 
-/// The bytes of an open file, which is closed with it. It tells none of them, since no contract can say which bytes the system keeps.
+/// The bytes of an open file, which is closed with it. It reveals none of them, since no contract can say which bytes the system keeps.
 #[derive(Drop)]
 pub struct FileBytes {
     file: File,

@@ -11,12 +11,12 @@ use crate::{ByteStore, LoadFault};
 use flt_flash::{Arm, Bench, Flash, FlashFailed};
 use std::alloc::Global;
 
-/// A flash of two sectors of pages of 32 bytes, in the bytes of a store: page behind page, sector 1 behind sector 0. Nothing else is in
+/// A flash of two sectors of pages of 32 bytes, in the bytes of a store: page after page, sector 1 after sector 0. Nothing else is in
 /// them.
 ///
 /// It has one life: it is off until its one power-up. When its store fails, the program or erase answers `FlashFailed` and the flash goes
 /// off for good; what the store then keeps of the page or the sector is between what was and what was asked. To go on, open it again. An
-/// arm has no effect, and is not told.
+/// arm has no effect, and is not known.
 #[derive(Drop)]
 pub struct FlashFile<B: ByteStore> {
     kept: Kept<B>,
@@ -34,7 +34,7 @@ pub struct FlashFile<B: ByteStore> {
 impl<B: ByteStore + Drop> FlashFile<B> {
     ghost use Rattle.flt_file.specs.FlashFile.{flash_file_state, sector_bytes, first_flash};
 
-    /// The flash of two sectors of so many pages, 2 to 1,024, that the bytes of this store are. It is off, and its power may come once.
+    /// The flash of two sectors of this many pages, 2 to 1,024, that the bytes of this store are. It is off, and its power may come once.
     ///
     /// # Errors
     ///

@@ -32,7 +32,7 @@ pub(crate) struct Kept<B: ByteStore> {
 impl<B: ByteStore + Drop> Kept<B> {
     ghost use Rattle.flt_file.specs.KeptOf.{kept_of};
 
-    /// The bytes of a store that has so many. The error lets the store go.
+    /// The bytes of a store that has this many. The error lets the store go.
     pub(crate) fn load(alloc: Global, mut store: B, size: usize) -> Result<Kept<B>, LoadFault>
         requires { IfSome (B.told store) (λ held. length held ≡ size) }
         ensures first { IfOk result (λ kept. kept_of B.told kept ≡ first_kept (kept_of B.told kept).bytes) }

@@ -1,8 +1,8 @@
 //! A flash, and an EEPROM, that a file keeps: what a program, an erase or a write of a unit answered `Ok` for is in the file, and synced,
 //! before it answers.
 //!
-//! It stands on `flt_flash`, of whose `Flash` and `Bench` `FlashFile` keeps each clause, and on `flt_ea`, of whose `Eeprom` `EepromFile`
-//! does. Both are over any `ByteStore`; `FileBytes` is one over a file of std, and `MemBytes` one in memory that fails where it is told to.
+//! It depends on `flt_flash`, of whose `Flash` and `Bench` `FlashFile` keeps each clause, and on `flt_ea`, of whose `Eeprom` `EepromFile`
+//! does. Both are over any `ByteStore`; `FileBytes` is one over a file of std, and `MemBytes` one in memory that fails where asked to.
 //! The layer above opens a file by `open_flash` or `open_eeprom`, and puts a driver of blocks over the device. Read `specs/Bytes.antt`
 //! first (what a write leaves), then `specs/Layout.antt` (where the pages are) and `specs/Kept.antt`.
 #![tactic(auto)]

@@ -1,4 +1,4 @@
-//! Bytes in memory that tell what they are, and that fail when they are told to.
+//! Bytes in memory that reveal what they are, and that fail when they are asked to.
 ghost use Rattle.std.specs.Prelude.{◌≡◌, ◌+◌, ◌≤◌, Some, length};
 ghost use Rattle.flt_file.specs.Bytes.{spliced};
 
@@ -62,7 +62,7 @@ impl MemBytes {
     }
 }
 
-/// Writes these bytes over those that stand from a place on.
+/// Writes these bytes over those from a place on.
 pub(crate) fn overwrite(bytes: &mut Vec<u8>, at: usize, new: &[u8])
     requires { at + length new.now ≤ length bytes.old.items }
     ensures { bytes.new.items ≡ spliced at new.now bytes.old.items }

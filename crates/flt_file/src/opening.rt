@@ -13,13 +13,13 @@ use std::os::unix::fs::{FileExt, MetadataExt};
 use std::rt::Files;
 use thiserror::Error;
 
-/// Why a file was not opened. What stood at the path is as it was.
+/// Why a file was not opened. What was at the path is as it was.
 #[derive(Debug, Drop, Error)]
 pub enum OpenFault {
     /// The folder of the path is missing. Make it, or name another path.
     #[error("the folder of the file is missing")]
     NoFolder,
-    /// A folder, a pipe or a device stands at the path. Name another path.
+    /// A folder, a pipe or a device is at the path. Name another path.
     #[error("it is not a file")]
     NoFile,
     /// The file has another size, in bytes: it is that of another device, or of something else. Name another path.
@@ -31,11 +31,11 @@ pub enum OpenFault {
     /// Another device has the file open, in this process or in another, or a process makes the file just now. End that one, and open again.
     #[error("the file is in use")]
     InUse,
-    /// The file was missing, and a blank one could not be made. Nothing stands at the path; what stands beside it, under the name with
+    /// The file was missing, and a blank one could not be made. Nothing is at the path; what is beside it, under the name with
     /// `.new`, is taken over by the next opening.
     #[error("the file could not be made: {0}")]
     Make(io::Error),
-    /// The system did not open the file, tell of it, or lock it.
+    /// The system did not open the file, say what it is, or lock it.
     #[error("the file could not be opened: {0}")]
     Open(io::Error),
     /// The folder of the file could not be synced, so it is not known whether it keeps the file. Look after the disk, and open again.
@@ -108,7 +108,7 @@ fn name_draft<R: Files>(
     fs::rename(rt, draft, path)
 }
 
-/// Makes a blank file of so many bytes at a path where there was none. It has its name only once it is whole. Of two processes that make
+/// Makes a blank file of this many bytes at a path where there was none. It has its name only once it is whole. Of two processes that make
 /// it at the same time one is refused.
 fn make<R: Files<File = File> + AllocGlobal>(
     rt: &R,
@@ -140,7 +140,7 @@ fn open_there<R: Files<File = File>>(rt: &R, path: &str) -> Result<File, OpenFau
     }
 }
 
-/// The file at a path, locked; a blank one of so many bytes is made if there is none.
+/// The file at a path, locked; a blank one of this many bytes is made if there is none.
 fn find<R: Files<File = File> + AllocGlobal>(
     rt: &R,
     path: &str,
@@ -162,7 +162,7 @@ fn sync_folder<R: Files<File = File> + AllocGlobal>(rt: &R, path: &str) -> io::R
     File::open(rt, folder.as_str())?.sync_all()
 }
 
-/// The file of so many bytes at a path, locked.
+/// The file of this many bytes at a path, locked.
 fn open_bytes<R: Files<File = File> + AllocGlobal>(
     rt: &R,
     path: &str,
@@ -182,8 +182,8 @@ fn open_bytes<R: Files<File = File> + AllocGlobal>(
     Ok(FileBytes::new(file))
 }
 
-/// Opens the flash of two sectors of so many pages, 2 to 1,024, in the file at this path of 64 bytes a page, sector 0 first. If the file is
-/// missing, it is made blank. The flash is off, and its power may come once. No other opening of the file succeeds before it is dropped.
+/// Opens the flash of two sectors of this many pages, 2 to 1,024, in the file at this path of 64 bytes a page, sector 0 first. If the file
+/// is missing, it is made blank. The flash is off, and its power may come once. No other opening of the file succeeds before it is dropped.
 ///
 /// # Errors
 ///
@@ -201,7 +201,7 @@ pub fn open_flash<R: Files<File = File> + AllocGlobal>(
     Ok(FlashFile::load(rt.alloc(), store, pages)?)
 }
 
-/// Opens the EEPROM of so many units in the file at this path of 32 bytes a unit. If the file is missing, it is made blank. The device is
+/// Opens the EEPROM of this many units in the file at this path of 32 bytes a unit. If the file is missing, it is made blank. The device is
 /// off, and its power may come once. No other opening of the file succeeds before it is dropped.
 ///
 /// # Errors

@@ -1,4 +1,4 @@
--- What is told of an input, by what was made of it.
+-- What is reported about an input, by what was made of it.
 use Rattle.std.proofs.Common.{◌≡◌, ℕ, List, Option, Some, None, Result, Ok, Err, refl, inl, inr, IfOk, IfSome}
 use Rattle.std.specs.Prelude.{option_map}
 use Rattle.std.specs.Result.{result_ok}
@@ -22,7 +22,7 @@ module _ (IsJudged : List ℕ → Due → Type 0) (inside : Inside) where
   fault_made Failed (Some verdict) unread large is = (failed, unread refl, is)
   fault_made TooMany (Some verdict) unread large is = (too_many, large refl, is)
 
-  -- What was made is told.
+  -- What was made is reported.
   pub made_told : (outside : Outside) (made : Option Due) (status : ℕ) → IsVerdictMade IsJudged inside made → IsToldOf outside made status
       → Tells IsJudged inside outside status
   made_told outside None status made told = inl told

@@ -1,4 +1,4 @@
--- What is told of an input: by what came of it, and by what a definition makes of its bytes.
+-- What is reported about an input: by what came of it, and by what a definition makes of its bytes.
 use Rattle.std.specs.Prelude.{◌≡◌, ◌⊎◌, ℕ, ◌≤◌, ◌<◌, List, [], ◌∷◌, ◌++◌, Option, Some, None, IfSome, codes, length}
 use Rattle.std.specs.Io.KnownBytes.{Appends, Consumes, IsAtEnd, Keeps}
 use Rattle.flt_io.specs.Fault.{Rose}
@@ -9,7 +9,7 @@ use Rattle.flt_filter.specs.declared.reading.InputFault.{InputFault}
 use Rattle.flt_filter.specs.declared.reading.InputFault.TheVariants.{Memory, Failed, TooMany}
 use Rattle.flt_filter.specs.declared.verdict.Verdict.{Verdict}
 
--- What is to be told: a status and its text.
+-- What is to be reported: a status and its text.
 pub record Due : Type 0 where
   pub status : ℕ
   pub text : List ℕ
@@ -74,13 +74,13 @@ IsDue IsJudged failed due = due ≡ unread_due
 IsDue IsJudged too_many due = due ≡ large_due
 IsDue IsJudged (whole bytes) due = IsJudged bytes due
 
--- The text was told and the status is the one due, or the sink failed behind a front of it and the status is 4.
+-- The text was written and the status is the one due, or the sink failed after a front of it and the status is 4.
 abbrev pub IsTold : Outside → Due → ℕ → Type 0
 IsTold outside due status =
     ((status ≡ due.status) × Appends outside.held outside.held_after due.text)
     ⊎ ((status ≡ 4) × Rose outside.faults outside.faults_after × AppendsFront outside.held outside.held_after due.text)
 
--- Something came, and its due was told.
+-- Something came, and its due was reported.
 pub record IsInputAnswered (IsJudged : List ℕ → Due → Type 0) (inside : Inside) (outside : Outside) (status : ℕ) : Type 0 where
   pub came : Came
   pub due : Due
@@ -88,7 +88,7 @@ pub record IsInputAnswered (IsJudged : List ℕ → Due → Type 0) (inside : In
   pub judged : IsDue IsJudged came due
   pub told : IsTold outside due status
 
--- Memory ran out, and nothing was told.
+-- Memory ran out, and nothing was reported.
 pub record WantsMemory (outside : Outside) (status : ℕ) : Type 0 where
   pub told : status ≡ 7
   pub kept : Keeps outside.held outside.held_after
@@ -112,7 +112,7 @@ IsFaultDue TooMany due = due ≡ large_due
 abbrev pub IsVerdictMade : (List ℕ → Due → Type 0) → Inside → Option Due → Type 0
 IsVerdictMade IsJudged inside made = IfSome made (λ due. (came : Came) × HasCome inside came × IsDue IsJudged came due)
 
--- What was made is told, or that memory ran out.
+-- What was made is reported, or that memory ran out.
 abbrev pub IsToldOf : Outside → Option Due → ℕ → Type 0
 IsToldOf outside None status = WantsMemory outside status
 IsToldOf outside (Some due) status = WantsMemory outside status ⊎ IsTold outside due status

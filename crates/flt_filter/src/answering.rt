@@ -1,4 +1,4 @@
-//! A whole input that is judged, and what is told of it.
+//! A whole input that is judged, and what is reported about it.
 ghost use Rattle.std.specs.Prelude.{ℕ, List, IfOk, option_map};
 ghost use Rattle.flt_filter.specs.Verdict.{Due, IsVerdictMade, Tells, due_of, reading_of, writing_of};
 
@@ -13,12 +13,12 @@ pub trait Judge: Drop + Sized {
     /// What is due of bytes.
     ghost is_judged: { Self → List ℕ → Due → Type 0 };
 
-    /// What is told of these bytes. The error means that memory ran out.
+    /// What is reported about these bytes. The error means that memory ran out.
     fn judge(self, alloc: Global, bytes: &[u8]) -> Result<Verdict, AllocError>
         ensures { IfOk result (λ verdict. is_judged self bytes.now (due_of verdict)) };
 }
 
-/// What is told of what a source has left; nothing where memory runs out.
+/// What is reported about what a source has left; nothing where memory runs out.
 fn reckon<J: Judge, S: Source>(judge: J, alloc: Global, source: &mut S) -> Option<Verdict>
     ensures { IsVerdictMade (J.is_judged judge) (reading_of S.left S.faults source.old source.new) (option_map due_of result) }
 {
@@ -28,7 +28,7 @@ fn reckon<J: Judge, S: Source>(judge: J, alloc: Global, source: &mut S) -> Optio
     }
 }
 
-/// Reads a source to its end, tells what is judged of its bytes, and answers the exit status: that of the verdict; 3 where the source
+/// Reads a source to its end, reports what is judged of its bytes, and answers the exit status: that of the verdict; 3 where the source
 /// failed; 4 in place of another where the sink did; 7 where memory ran out; 9 where more than 16,777,216 bytes came.
 pub fn answer<J: Judge, S: Source, K: Sink>(
     judge: J,

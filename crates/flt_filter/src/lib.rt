@@ -1,6 +1,6 @@
-//! A whole input that is judged: it is read to its end, and a status and a text are told of it.
+//! A whole input that is judged: it is read to its end, and a status and a text are reported about it.
 //!
-//! It stands on `flt_io`. A reader above makes a `Verdict` of the bytes as a `Judge`, and `answer` does the rest; one that has more to make of
+//! It depends on `flt_io`. A reader above makes a `Verdict` of the bytes as a `Judge`, and `answer` does the rest; one that has more to make of
 //! them is given them by `read_input`, and hands its `Verdict` to `tell`.
 //! Read `specs/Verdict.antt` first: `Tells` says whole what a reader answers, by what its definition makes of the bytes that came.
 #![tactic(auto)]

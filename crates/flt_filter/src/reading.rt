@@ -38,7 +38,7 @@ impl From<StreamFault> for InputFault {
 }
 
 impl InputFault {
-    /// What is told of the input; nothing where memory runs out.
+    /// What is reported about the input; nothing where memory runs out.
     pub fn verdict(self, alloc: Global) -> Option<Verdict>
         ensures { IfSome result (λ verdict. IsFaultDue self (due_of verdict)) }
     {

@@ -1,4 +1,4 @@
-//! What is told of an input.
+//! What is reported about an input.
 ghost use Rattle.std.specs.Prelude.{◌≡◌, ◌++◌, ◌∷◌, [], IfOk};
 ghost use Rattle.flt_io.specs.Status.{status_number};
 ghost use Rattle.flt_filter.specs.Verdict.{due_of, line_due};
@@ -6,7 +6,7 @@ ghost use Rattle.flt_filter.specs.Verdict.{due_of, line_due};
 use flt_io::Status;
 use std::alloc::{AllocError, Global};
 
-/// What is told of an input: the exit status, and the text that says so.
+/// What is reported about an input: the exit status, and the text that says so.
 #[derive(Drop)]
 pub struct Verdict {
     pub status: u8,

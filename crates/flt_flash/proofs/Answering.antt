@@ -12,7 +12,7 @@ use Rattle.flt_flash.specs.declared.blocks.BlockFault.TheVariants.{Flash, Damage
 pub sound_calls : {T : Type 0} {before after : BlocksState} (result : Result T BlockFault) → Follows before after → before.damage ≡ None
     → (IsErrOf result Flash → HasRisenBy 1 before.device.faults after.device.faults) → ((sector page : ℕ) → IsErrOf result (Damaged sector page) → ⊥) → BlockCalls before after result
 sound_calls {T} {before} {after} result follows sound cause undamaged = record {
-  follows = follows;
+  keeps_driver = follows;
   flash = cause;
   damaged = λ sector page told. absurd (undamaged sector page told);
   refuses_damage = no_damage result;

@@ -59,10 +59,10 @@ no_damage_before : (before after : Option (ℕ × ℕ)) → ((p : ℕ × ℕ) �
 no_damage_before None after stays none = refl
 no_damage_before (Some p) after stays none = absurd (cc (stays p refl, none))
 
--- The last of several calls tells how they ended.
+-- The last of several calls says how they ended.
 pub calls_after : {T : Type 0} (first second third : BlocksState) (result : Result T BlockFault) → Follows first second → BlockCalls second third result → BlockCalls first third result
 calls_after {T} first second third result one two = record {
-  follows = more_calls first second third one two.follows;
+  keeps_driver = more_calls first second third one two.keeps_driver;
   flash = λ told. (let rose = two.flash told in omega (arith, one.counts, rose));
   damaged = λ sector page told. (let found = two.damaged sector page told in (
     damage_before first.damage second.damage (sector, page) (λ p e. (one.damage_stays p e).0) one.no_new_damage found.0,

@@ -1,4 +1,4 @@
--- An array of pages by its front: pages behind it are blank.
+-- An array of pages by its front: pages after it are blank.
 use Rattle.std.proofs.Common.{◌≡◌, inl, inr, ℕ, ◌<◌, ◌≤◌, ◌-◌, List, [], ◌∷◌, ◌++◌, length, get_or, set, length-set, subst, length-append, get_or-set_same, get_or-set_other, refl, sym, ◌∙◌, ap, arith}
 use Rattle.std.specs.Prelude.{replicate, Option, None, Some, IfNone, IfSome, OnSome}
 use Rattle.std.proofs.lemmas.Bool.{cases_eq}

@@ -22,7 +22,7 @@ module _ (earlier : ℕ) (failed : Option ℕ) (later : ℕ) (failed_later : Opt
 
   pub calls_recounted : {T : Type 0} {result : Result T BlockFault} → BlockCalls before after result → BlockCalls (recounted earlier failed before) (recounted later failed_later after) result
   calls_recounted calls = record {
-    follows = follows_recounted calls.follows;
+    keeps_driver = follows_recounted calls.keeps_driver;
     flash = calls.flash;
     damaged = calls.damaged;
     refuses_damage = calls.refuses_damage;

@@ -54,15 +54,15 @@ is_due_fault (Mute sector page times) = false
 abbrev pub acting : List Arm → Option Arm
 acting arms = option_or (find is_due_cut arms) (find is_due_fault arms)
 
--- The arms that stand after a program or erase.
+-- The arms that remain after a program or erase.
 abbrev pub standing_after_write : List Arm → List Arm
 standing_after_write arms = filter stands (map after_write arms)
 
--- The arms that stand after a read of this page.
+-- The arms that remain after a read of this page.
 abbrev pub standing_after_read : ℕ → ℕ → List Arm → List Arm
 standing_after_read sector page arms = filter stands (map (after_read sector page) arms)
 
--- The arms made with one more, told while there are 64 at most.
+-- The arms made with one more, reported while there are 64 at most.
 abbrev pub arms_told_with : Option (List ArmMade) → ArmMade → Option (List ArmMade)
 arms_told_with None made = None
 arms_told_with (Some earlier) made = if nat_lt (length earlier) 64 then Some (earlier ++ made ∷ []) else None

@@ -3,7 +3,7 @@ use Rattle.std.specs.Prelude.{◌≡◌, ◌<◌, ◌+◌, ◌/◌, ℕ, Bool, L
 use Rattle.flt_flash.specs.Content.{Content, missing, invalid, bytes}
 use Rattle.flt_flash.specs.State.{BenchState, FlashState, as_counted, erases_of}
 
--- The device beneath a driver, and its operations and erases where they are told.
+-- The device beneath a driver, and its operations and erases where they are known.
 pub record DeviceState : Type 0 where
   pub faults : ℕ
   pub image : List (List (List ℕ))
@@ -21,7 +21,7 @@ device_of device = record {
   bench = device.bench;
 }
 
--- A driver of blocks; a place is a sector and a page, and a record is told by its block and its length.
+-- A driver of blocks; a place is a sector and a page, and a record is given by its block and its length.
 pub record BlocksState : Type 0 where
   pub numbers : List ℕ  -- the block numbers with which it was made
   pub is_stale : Bool  -- the next call mounts first
@@ -35,7 +35,7 @@ pub record BlocksState : Type 0 where
   pub is_stuck : ℕ → ℕ → Bool  -- this record can't be written any more
   pub device : DeviceState
 
--- A driver that counts so many calls, and of which the flash failed this one last.
+-- A driver that counts this many calls, and of which the flash failed this one last.
 abbrev pub recounted : ℕ → Option ℕ → BlocksState → BlocksState
 recounted calls last_failed state = record state { calls = calls; last_failed = last_failed }
 
@@ -43,7 +43,7 @@ recounted calls last_failed state = record state { calls = calls; last_failed = 
 abbrev pub byte_pages : ℕ → ℕ
 byte_pages length = (length + 31) / 32
 
--- The pages of a record of so many bytes: a head, the bytes, and a gate.
+-- The pages of a record of this many bytes: a head, the bytes, and a gate.
 abbrev pub record_pages : ℕ → ℕ
 record_pages length = 2 + byte_pages length
 

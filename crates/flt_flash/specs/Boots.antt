@@ -13,7 +13,7 @@ one_sector pages = pages ∷ []
 abbrev pub two_sectors : ℕ → List (List ℕ) → List (List (List ℕ))
 two_sectors many pages = take many pages ∷ drop many pages ∷ []
 
--- The image that a power-up found: a blank one after the first of so many changes.
+-- The image that a power-up found: a blank one after the first changes, of this number.
 abbrev pub pages_then : Boots → ℕ → List (List ℕ)
 pages_then boots changes = changed_by (blank_image (boots.first.count + boots.second.count)) (take changes boots.changes.items)
 

@@ -25,7 +25,7 @@ SameSpent before after = after.is_spent ≡ before.is_spent
 abbrev pub OthersKept : ℕ → BlocksState → BlocksState → Type 0
 OthersKept block before after = (other : ℕ) → other ≢ block → after.value other ≡ before.value other
 
--- A count that is told, or not, never falls.
+-- A count that is known, or not, never falls.
 abbrev pub NeverFalls : Option ℕ → Option ℕ → Type 0
 NeverFalls None None = Unit {0}
 NeverFalls None (Some after) = ⊥
@@ -46,10 +46,10 @@ pub record Follows (before after : BlocksState) : Type 0 where
   pub erases : NeverFalls before.device.erases after.device.erases
   pub bench : KeepsBench before.device.bench after.device.bench
 
--- One mount, write, read or invalidate: a fault of the flash has its cause, a fault of the image is told by a mount
+-- One mount, write, read or invalidate: a fault of the flash has its cause, a fault of the image is reported by a mount
 -- alone, before one has answered Ok, and none is passed over.
 pub record BlockCalls {T : Type 0} (before after : BlocksState) (result : Result T BlockFault) : Type 0 where
-  pub follows : Follows before after
+  pub keeps_driver : Follows before after
   pub flash : IsErrOf result Flash → HasRisenBy 1 before.device.faults after.device.faults
   pub damaged : (sector page : ℕ) → IsErrOf result (Damaged sector page) → (before.damage ≡ Some (sector, page)) × IsFalse before.has_mounted
   pub refuses_damage : OnOk result (before.damage ≡ None)
@@ -138,11 +138,11 @@ found_of (bytes held) = Bytes (length held)
 abbrev pub NoFault : BlocksState → BlocksState → Type 0
 NoFault before after = HasRisenBy 1 before.device.faults after.device.faults → ⊥
 
--- The erases are told, stand well below their greatest number, and did not rise.
+-- The erases are known, are well below their greatest number, and did not rise.
 abbrev pub NoErase : BlocksState → BlocksState → Type 0
 NoErase before after = IsSomeAnd before.device.erases (λ erases. (erases + 2 ^ 32 ≤ last_count) × (after.device.erases ≡ Some erases))
 
--- The operations of the device rose by this many at most, where they are told.
+-- The operations of the device rose by this many at most, where they are known.
 abbrev pub CostsAtMost : ℕ → BlocksState → BlocksState → Type 0
 CostsAtMost limit before after = IfSome after.device.operations (λ made. IsSomeAnd before.device.operations (λ earlier. made ≤ earlier + limit))
 

@@ -4,7 +4,7 @@ use Rattle.flt_flash.specs.Image.{blank_page}
 use Rattle.flt_flash.specs.declared.boot.BootMark.{BootMark}
 use Rattle.flt_flash.specs.declared.boot.PageChange.{PageChange}
 
--- A blank image of so many pages.
+-- A blank image of this many pages.
 abbrev pub blank_image : ℕ → List (List ℕ)
 blank_image pages = replicate pages blank_page
 
@@ -13,6 +13,6 @@ abbrev pub changed_by : List (List ℕ) → List PageChange → List (List ℕ)
 changed_by image [] = image
 changed_by image (change ∷ later) = changed_by (slice_set image change.page change.bytes) later
 
--- Each power-up found an image to which the first of so many changes lead.
+-- Each power-up found an image to which the first changes, of this number, lead.
 abbrev pub AreReached : ℕ → List BootMark → Type 0
 AreReached changes marks = All (λ mark. mark.changes ≤ changes) marks

@@ -1,4 +1,5 @@
--- Worked operations of a flash in memory: which arm acts, what stands behind it, and what a pattern leaves; which block failed last, and what a mount costs.
+-- Worked operations of a flash in memory: which arm acts, which arms remain after it, and what a pattern leaves; which block failed last, and what a
+-- mount costs.
 use Rattle.std.specs.Prelude.{◌≡◌, ◌^◌, ◌-◌, ◌<◌, ℕ, Bool, true, false, List, [], ◌∷◌, length, map, nat_le, if◌then◌else◌, Option, Some, None, Result, Ok, Err, slice_index, slice_index_or}
 use Rattle.flt_flash.specs.Image.{blank_page, ArePages}
 use Rattle.flt_flash.specs.Arms.{IsTornBy, IsErasedBy, IsProgrammedBy}
@@ -18,7 +19,7 @@ power_on faults operations standing = record { is_off = false; faults = faults; 
 abbrev pub power_off : ℕ → ℕ → List Arm → PowerState
 power_off faults operations standing = record { is_off = true; faults = faults; operations = operations; standing = standing }
 
--- A program or an erase: the power before it, the pattern by which it fails, and the power behind it.
+-- A program or an erase: the power before it, the pattern by which it fails, and the power after it.
 pub record Written : Type 0 where
   pub before : PowerState
   pub fails : Option Pattern
@@ -44,7 +45,7 @@ writes =
     ∷ written_as (power_off (2 ^ 64 - 1) (2 ^ 64 - 1) []) (Some Nothing) (power_off (2 ^ 64 - 1) (2 ^ 64 - 1) [])
     ∷ []
 
--- A read of page 3 of sector 0: the power before it, whether it fails, and the power behind it.
+-- A read of page 3 of sector 0: the power before it, whether it fails, and the power after it.
 pub record Read : Type 0 where
   pub before : PowerState
   pub fails : Bool
@@ -53,7 +54,7 @@ pub record Read : Type 0 where
 abbrev pub read : PowerState → Bool → PowerState → Read
 read before fails after = record { before = before; fails = fails; after = after }
 
--- A mute makes so many reads of its page fail, and reads of no other page, nor a program or an erase, count for it. Each mute of the page
+-- A mute makes this many reads of its page fail, and reads of no other page, nor a program or an erase, count for it. Each mute of the page
 -- counts the read. A read brings no cut or fault nearer.
 abbrev pub reads : List Read
 reads =

@@ -1,4 +1,4 @@
--- What is told of the arms that were made on a device in memory.
+-- What is reported of the arms that were made on a device in memory.
 use Rattle.std.specs.Prelude.{List, Option, Some, None, if◌then◌else◌}
 use Rattle.flt_flash.specs.declared.arm.ArmMade.{ArmMade}
 use Rattle.flt_flash.specs.declared.made.ArmsTold.{ArmsTold}

@@ -6,7 +6,7 @@ use Rattle.std.proofs.lemmas.List.{length-replicate, get_or_append_left, get_or-
 use Rattle.flt_flash.specs.Image.{blank_page, ArePages}
 use Rattle.flt_flash.specs.declared.array.PageArray.{PageArray}
 
--- The pages as far as one was written, and behind them blank ones.
+-- The pages as far as one was written, and after them blank ones.
 abbrev pub all_pages : PageArray → List (List ℕ)
 all_pages array = array.front.items ++ replicate (array.count - length array.front.items) blank_page
 

@@ -10,7 +10,7 @@ use Rattle.flt_flash.specs.declared.power.Power.{Power}
 use Rattle.flt_flash.specs.State.{counted_up}
 use Rattle.flt_flash.specs.Arms.{after_write, acting, mutes, standing_after_write, standing_after_read}
 
--- The power, its counts, and the arms that stand, in the order in which they were made.
+-- The power, its counts, and the arms that remain, in the order in which they were made.
 pub record PowerState : Type 0 where
   pub is_off : Bool
   pub faults : ℕ
@@ -69,7 +69,7 @@ power_after_read sector page power = record {
   standing = if power.is_off then power.standing else standing_after_read sector page power.standing;
 }
 
--- One program of a flash in memory fails exactly where the power is off or an arm acts, and is torn by the pattern then.
+-- One program or erase of a flash in memory fails exactly where the power is off or an arm acts, and is torn by the pattern then.
 pub record FailsByArms {T : Type 0} (before after : PowerState) (result : Result T FlashFailed) (IsTornBy : Pattern → Type 0) : Type 0 where
   pub fails : is_err result ≡ is_some (failing_by before)
   pub power : after ≡ power_after_write before

@@ -10,7 +10,7 @@ use Rattle.flt_flash.specs.declared.flash.FlashFailed.{FlashFailed}
 abbrev pub last_count : ℕ
 last_count = 2 ^ 64 - 1
 
--- A count that rose by this many at least, or stands at its greatest number.
+-- A count that rose by this many at least, or is at its greatest number.
 abbrev pub HasRisenBy : ℕ → ℕ → ℕ → Type 0
 HasRisenBy many before after = min (before + many) (2 ^ 64 - 1) ≤ after
 
@@ -31,7 +31,7 @@ pub record PowerUp : Type 0 where
   pub faults : ℕ
   pub image : List (List (List ℕ))
 
--- What a bench keeps: the boots, the arms made where they are told, and how many arms stand.
+-- What a bench keeps: the boots, the arms made where they are known, and how many arms remain.
 pub record BenchState : Type 0 where
   pub boots : List PowerUp
   pub boots_left : ℕ
@@ -58,7 +58,7 @@ pub record HasShape (state : FlashState) : Type 0 where
   pub operations : state.operations ≤ 2 ^ 64 - 1
   pub erases : (sector : ℕ) → sector < 2 → slice_index_or state.wear sector 0 ≤ 2 ^ 64 - 1
 
--- An operation keeps the boots and the arms made, and lets none stand anew.
+-- An operation keeps the boots and the arms made, and adds no arm.
 pub record KeepsBench (before after : BenchState) : Type 0 where
   pub boots : after.boots ≡ before.boots
   pub boots_left : after.boots_left ≡ before.boots_left

@@ -1,4 +1,4 @@
-//! The faults that a bench is told to make.
+//! The faults that a bench is ordered to make.
 ghost use Rattle.std.specs.Prelude.{◌≡◌, ℕ};
 ghost use Rattle.flt_flash.specs.Arms.{idle_arm, after_write, mutes, after_read, stands, is_due_cut, is_due_fault};
 
@@ -13,7 +13,7 @@ pub enum Pattern {
     Odd,
 }
 
-/// A fault that stands until it has fired. Operations made while the power is off count for none.
+/// A fault that remains until it has fired. Operations made while the power is off count for none.
 #[derive(Clone, Copy, Debug, PartialEq, Eq)]
 pub enum Arm {
     /// Tears the program or erase number `after` from the arming on, fails it, and turns the flash off. `after` is

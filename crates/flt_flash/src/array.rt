@@ -17,7 +17,7 @@ pub(crate) static BLANK: [u8; 32] = [255; 32];
 pub struct PageArray {
     /// The pages as far as one was written.
     pub front: Vec<[u8; 32]>,
-    /// How many pages there are; those behind the front are blank.
+    /// How many pages there are; those after the front are blank.
     pub count: usize,
     ghost fits: { length front.items ≤ count },
     ghost room: { count ≤ vec_capacity front },
@@ -27,7 +27,7 @@ pub struct PageArray {
 impl PageArray {
     ghost use Rattle.flt_flash.specs.PageArrays.{all_pages};
 
-    /// So many blank pages. The error means that memory ran out.
+    /// This many blank pages. The error means that memory ran out.
     pub fn blank(alloc: Global, count: usize) -> Result<PageArray, AllocError>
         ensures pages { IfOk result (λ array. all_pages array ≡ replicate count blank_page) }
         ensures count { IfOk result (λ array. array.count ≡ count) }
@@ -60,7 +60,7 @@ impl PageArray {
         }
     }
 
-    /// Takes memory for so many pages, or more; the pages are as they were.
+    /// Takes memory for this many pages, or more; the pages are as they were.
     fn reach(&mut self, pages: usize)
         requires { pages ≤ self.old.count }
         ensures pages { all_pages self.new ≡ all_pages self.old }

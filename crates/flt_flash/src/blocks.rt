@@ -18,7 +18,7 @@ pub struct Refused<F> {
 /// What a read of a block found.
 #[derive(Clone, Copy, Debug, PartialEq, Eq)]
 pub enum Found {
-    /// So many bytes, 1 to 128.
+    /// This many bytes, 1 to 128.
     Bytes(usize),
     /// The block was never written.
     Missing,
@@ -60,7 +60,7 @@ impl From<FlashFailed> for BlockFault {
 /// It counts its mounts, writes, reads and invalidates, each once; the mount that a stale one makes by itself is not counted. It keeps
 /// the block of the last write, read or invalidate that answered `Flash`.
 pub trait Blocks {
-    /// The blocks, and what the device tells. Room, operations and erases are told or not, as the driver has them.
+    /// The blocks, and what the device reports. Room, operations and erases are known or not, as the driver has them.
     ghost state: { Self → BlocksState };
 
     /// Looks at the device as a power-up left it. It answers `Ok` only where the image has no fault.
@@ -131,7 +131,7 @@ pub trait Blocks {
     fn boots_left(&self) -> u16
         ensures { result ≡ (state self.now).device.bench.boots_left };
 
-    /// How many arms stand, 64 at most.
+    /// How many arms remain, 64 at most.
     fn armed(&self) -> u8
         ensures { result ≡ (state self.now).device.bench.armed };
 

@@ -51,8 +51,8 @@ pub struct Boots {
 impl Boots {
     ghost use Rattle.flt_flash.specs.Boots.{boots_of, left_of, AddsOne, pages_then};
 
-    /// The room of this many power-ups of a device of two sectors of so many pages, which is filled as they come. The error means that memory
-    /// ran out.
+    /// The room of this many power-ups of a device of two sectors of this many pages, which is filled as they come. The error
+    /// means that memory ran out.
     pub fn reserved(
         alloc: Global,
         first: usize,
@@ -124,7 +124,7 @@ impl Boots {
     }
 }
 
-/// Takes the pages that are not as in the sector kept: into it, and behind the changes, where its first page has the number `from`.
+/// Takes the pages that are not as in the sector kept: into it, and after the changes, where its first page has the number `from`.
 fn keep_changes(last: &mut PageArray, changes: &mut Vec<PageChange>, from: usize, pages: &PageArray)
     requires same { pages.now.count ≡ last.old.count }
     requires size { from + last.old.count < 2 ^ 32 }

@@ -71,11 +71,11 @@ pub trait Bench: Flash {
     fn boots_left(&self) -> u16
         ensures { result ≡ (Self.state self.now).bench.boots_left };
 
-    /// How many arms stand, 64 at most.
+    /// How many arms remain, 64 at most.
     fn armed(&self) -> u8
         ensures { result ≡ (Self.state self.now).bench.armed };
 
-    /// Makes an arm, which stands until it has fired, over power-ups too.
+    /// Makes an arm, which remains until it has fired, over power-ups too.
     fn arm(&mut self, arm: Arm)
         requires room { (Self.state self.old).bench.armed < 64 }
         requires number { CanArm arm }

@@ -4,12 +4,12 @@ ghost use Rattle.flt_flash.specs.State.{HasRisenBy, last_count};
 ghost use Rattle.flt_flash.specs.Blocks.{BlocksState};
 ghost use Rattle.flt_flash.specs.Calls.{NoErase};
 
-/// A count has risen by so many exactly where it is so many more at least, or stands at its greatest number.
+/// A count has risen by a number exactly where it is that much more at least, or is at its greatest number.
 pub fn counts_rise()
     ensures { (many before after : ℕ) → after ≤ last_count → HasRisenBy many before after ↔ ((before + many ≤ after) ⊎ (after ≡ last_count)) }
 {}
 
-/// No sector was erased exactly where the erases are told, stand 2^32 below their greatest number at least, and are told as the same
+/// No sector was erased exactly where the erases are known, are 2^32 below their greatest number at least, and are known as the same
 /// number after the calls.
 pub fn erases_stand()
     ensures { (before after : BlocksState) → NoErase before after ↔ ((erases : ℕ) × (before.device.erases ≡ Some erases)

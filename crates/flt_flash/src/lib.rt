@@ -1,7 +1,7 @@
 //! A flash of two sectors that loses power and fails, the same flash in memory, and the contract between
 //! the drivers of blocks and the layers above them.
 //!
-//! It stands on no other crate of this repository. Drivers over a flash use `Flash` and `Bench`, with the state
+//! It depends on no other crate of this repository. Drivers over a flash use `Flash` and `Bench`, with the state
 //! of `specs/State.antt`, which is to be read first; all layers above a driver use `Blocks`, with `specs/Blocks.antt`
 //! and `specs/Calls.antt`. `FlashMem` keeps `Flash` and `Bench`, and says exactly where it fails (`specs/Power.antt`).
 //! `Power`, `Boots` and the calls on pages are the parts of any device in memory.

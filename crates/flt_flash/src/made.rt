@@ -5,7 +5,7 @@ ghost use Rattle.flt_flash.specs.Arms.{arms_told_with};
 use crate::ArmMade;
 use arrayvec::ArrayVec;
 
-/// The arms that were made. It tells them all while they are at most 64, and after one more none.
+/// The arms that were made. It reports them all while they are at most 64, and after one more none.
 #[derive(Drop)]
 pub struct ArmsTold {
     /// The first of them, at most 64, in the order in which they were made.

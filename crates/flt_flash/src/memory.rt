@@ -1,9 +1,9 @@
 //! A flash in memory, and the bench that cuts its power and makes its operations fail.
-ghost use Rattle.std.specs.Prelude.{◌≡◌, false, ℕ, ◌^◌, ◌+◌, ◌-◌, ◌*◌, ◌/◌, ◌%◌, ◌<◌, ◌≤◌, take, drop, [], ◌∷◌, ◌++◌, length, replicate, Some, IfNone, IfSome, OnSome, is_err, is_some, OnOk, OnErr, IfOk, slice_index, slice_set};
+ghost use Rattle.std.specs.Prelude.{◌≡◌, false, ◌^◌, ◌+◌, ◌-◌, ◌*◌, ◌/◌, ◌%◌, ◌<◌, ◌≤◌, take, drop, [], ◌∷◌, ◌++◌, length, replicate, is_err, OnOk, OnErr, IfOk, slice_index, slice_set};
 ghost use Rattle.flt_flash.specs.State.{first_state, Operates, counted_up, CanArm, Arms, PowersUp};
 ghost use Rattle.flt_flash.specs.Tearing.{IsTorn};
-ghost use Rattle.flt_flash.specs.Image.{page_at, sector_at, programmed, erased, blank_page};
-ghost use Rattle.flt_flash.specs.Arms.{IsProgrammedBy, IsErasedBy, arms_told_with};
+ghost use Rattle.flt_flash.specs.Image.{page_at, programmed, erased, blank_page};
+ghost use Rattle.flt_flash.specs.Arms.{arms_told_with};
 ghost use Rattle.flt_flash.specs.Power.{first_power};
 ghost use Rattle.flt_flash.specs.PageArrays.{all_pages};
 
@@ -15,8 +15,8 @@ use crate::{Arm, ArmMade, Bench, Flash, FlashFailed, PageArray};
 use arrayvec::ArrayVec;
 use std::alloc::{AllocError, Global};
 
-/// A flash in memory that tells everything, its arms while at most 64 were made. It reserves its memory when it is made, and touches that of a
-/// page when it or one behind it is written.
+/// A flash in memory that reports everything, its arms while at most 64 were made. It reserves its memory when it is made, and touches that of
+/// a page when it or a later one is written.
 #[derive(Drop)]
 pub struct FlashMem {
     pages: u16,
@@ -128,9 +128,9 @@ impl FlashMem {
 }
 
 impl Flash for FlashMem {
-    ghost use Rattle.flt_flash.specs.Memory.{flash_state, power_of};
+    ghost use Rattle.flt_flash.specs.Memory.{EraseFails, ProgramFails, flash_state, power_of};
     ghost use Rattle.flt_flash.specs.Shape.{shape_of};
-    ghost use Rattle.flt_flash.specs.Power.{FailsByArms, read_fails, failing_by, power_after_write, power_after_read};
+    ghost use Rattle.flt_flash.specs.Power.{read_fails, power_after_read};
 
     ghost state = { flash_state };
 
@@ -169,9 +169,8 @@ impl Flash for FlashMem {
         ensures wear { (flash_state self.new).wear ≡ (flash_state self.old).wear }
         ensures operation { Operates (flash_state self.old) (flash_state self.new) result }
 
-        // It fails exactly where the power is off or an arm stands at it, and is torn by the pattern.
-        ensures fails { FailsByArms (power_of self.old) (power_of self.new) result (λ pattern.
-            IsProgrammedBy pattern (sector_at (flash_state self.old).image sector) page bytes.now (sector_at (flash_state self.new).image sector)) }
+        // It fails exactly where the power is off or an arm acts at it, and is torn by the pattern.
+        ensures fails { ProgramFails self.old self.new sector page bytes.now result }
     {
         let failing = self.power.count_write();
         if sector == 0 {
@@ -189,11 +188,8 @@ impl Flash for FlashMem {
         ensures wear { (flash_state self.new).wear ≡ slice_set (flash_state self.old).wear sector (counted_up (slice_index (flash_state self.old).wear sector)) }
         ensures operation { Operates (flash_state self.old) (flash_state self.new) result }
 
-        // It fails exactly where the power is off or an arm stands at it, and is torn by the pattern.
-        ensures fails { is_err result ≡ is_some (failing_by (power_of self.old)) }
-        ensures power { power_of self.new ≡ power_after_write (power_of self.old) }
-        ensures by_pattern { IfSome (failing_by (power_of self.old)) (λ pattern.
-            IsErasedBy pattern (sector_at (flash_state self.old).image sector) (sector_at (flash_state self.new).image sector)) }
+        // It fails exactly where the power is off or an arm acts at it, and is torn by the pattern.
+        ensures fails { EraseFails self.old self.new sector result }
     {
         let failing = self.power.count_write();
         if sector == 0 {
@@ -235,7 +231,7 @@ impl Bench for FlashMem {
         requires number { CanArm arm }
         ensures arms { Arms arm (flash_state self.old) (flash_state self.new) }
 
-        // The arm stands behind those that stood, and is told where at most 64 were made.
+        // The arm comes after those that were there, and is reported where at most 64 were made.
         ensures power { power_of self.new ≡ record (power_of self.old) { standing = (power_of self.old).standing ++ arm ∷ [] } }
         ensures told { (flash_state self.new).bench.arms ≡ arms_told_with (flash_state self.old).bench.arms
             (record { arm = arm; boots = length (flash_state self.old).bench.boots; faults = (flash_state self.old).faults }) }
@@ -252,7 +248,7 @@ impl Bench for FlashMem {
         requires { 0 < (flash_state self.old).bench.boots_left }
         ensures powers_up { PowersUp (flash_state self.old) (flash_state self.new) }
 
-        // The arms that stood stand.
+        // The arms that were there remain.
         ensures power { power_of self.new ≡ record (power_of self.old) { is_off = false } }
     {
         self.boots

@@ -1,4 +1,4 @@
-//! The power of a flash in memory, its counts, and the arms that stand, in the order in which they were made.
+//! The power of a flash in memory, its counts, and the arms that remain, in the order in which they were made.
 ghost use Rattle.std.specs.Prelude.{◌≡◌, ◌≤◌, ◌||◌, if◌then◌else◌, is_some, map};
 ghost use Rattle.std.specs.List.{filter, find, list_any};
 ghost use Rattle.arrayvec.specs.ArrayVec.{array_vec_len};
@@ -59,7 +59,7 @@ fn acting(met: &[Arm]) -> Option<Arm>
     first_cut(met).or(first_fault(met))
 }
 
-/// Counts a read of a page where arms stand, and says whether one makes it fail. It is not inlined, so that a read without them is short.
+/// Counts a read of a page where arms remain, and says whether one makes it fail. It is not inlined, so that a read without them is short.
 #[inline(never)]
 fn count_read_under(arms: &mut ArrayVec<Arm, 64>, sector: u8, page: u16) -> bool
     ensures muted { result ≡ list_any (mutes sector page) arms.old.items }
@@ -72,7 +72,7 @@ fn count_read_under(arms: &mut ArrayVec<Arm, 64>, sector: u8, page: u16) -> bool
     muted
 }
 
-/// Whether a device in memory is off, its counts of faults and of operations, and the arms that stand.
+/// Whether a device in memory is off, its counts of faults and of operations, and the arms that remain.
 #[derive(Drop)]
 pub struct Power {
     pub is_off: bool,

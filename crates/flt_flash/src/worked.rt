@@ -1,7 +1,7 @@
 //! Worked operations of a flash in memory, which the check computes, what a torn one leaves, which block failed last, and what a mount costs.
 ghost use Rattle.flt_flash.specs.Examples.{ArmsAct, BytesAreTorn, ErasesAreTorn, FailuresAreNamed, MountsCost, ProgramsAreTorn};
 
-/// Which arm acts at a program, an erase or a read, how it fails then, and what stands behind it.
+/// Which arm acts at a program, an erase or a read, how it fails then, and which arms remain after it.
 pub fn arms_act()
     ensures { ArmsAct }
 {}

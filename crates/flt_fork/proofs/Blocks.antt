@@ -1,4 +1,4 @@
--- A block: where the calls of its lanes stand in any journal in which the lock could be closed behind it.
+-- A block: where the calls of its lanes are in any journal in which the lock could be closed after it.
 use Rattle.std.proofs.Common.{◌≡◌, ◌⊎◌, inl, inr, ⊎_elim, ℕ, ◌<◌, ◌≤◌, ◌+◌, Bool, true, false, leb, leb-true, leb-false, List, [], ◌∷◌, ◌++◌, All, Some, length, map, get_or, arith, refl, sym, ap, subst, ◌∙◌}
 use Rattle.std.specs.Prelude.{Contains, slice_get}
 use Rattle.std.proofs.lemmas.List.{length-append, length-map, append-nil, get_or-map}
@@ -48,7 +48,7 @@ pub record HasJoined {S O : Type 0} (main after : Seated S O) (width : ℕ) (aft
 abbrev pub IsGivenFor : {S O X : Type 0} → Seated S O → ℕ → (ℕ × X) → Type 0
 IsGivenFor main width lane = (main.children < lane.0) × (lane.0 ≤ main.children + width)
 
--- Each lane makes its first call behind what was known before the block.
+-- Each lane makes its first call after what was known before the block.
 abbrev pub IsFresh : {S O R : Type 0} → Seated S O → (ℕ × List (Call O R)) → Type 0
 IsFresh {S} {O} main lane = (old : List (Entry O)) → (IsPrefix old main.seen ⊎ Contains main.olds old) → (lane.1 ≡ []) ⊎ (calls_of lane.0 old ≡ [])
 
@@ -222,7 +222,7 @@ module _ {S O R : Type 0} (admits : S → O → Type 0) (answer : S → List O �
           (λ k d within same. absurd (omega (arith, same, past, (is.ended k d within).given)))
           (λ k d within same. subst (λ m. calls_of m old ≡ []) same (no_new journal old mixes pre known k d within)))) pre
 
-      -- The calls of the main seat and of the lanes that were joined before stand in that front.
+      -- The calls of the main seat and of the lanes that were joined before are in that front.
       main_full : (journal : List (Entry O)) → Mixes journal ((main.number, main.mine) ∷ (main.ended ++ new)) → IsPrefix main.seen journal → IsFull main.number main.mine (low_front main.children journal) (high_rest main.children journal)
       main_full journal mixes pre =
           let low = old_low journal main.seen mixes pre (inl ([], append-nil main.seen)) in
@@ -276,7 +276,7 @@ module _ {S O R : Type 0} (admits : S → O → Type 0) (answer : S → List O �
                 (λ k d within same. absurd (apart (subst (Contains (map (λ lane. lane.0) new)) same (among k d within)))));
           }
 
-      -- So their calls stand behind that front.
+      -- So their calls come after that front.
       past_front : (journal : List (Entry O)) (n : ℕ) → main.children < n → BlockTold answer main.start journal lanes → All (λ (call : Call O R). length (low_front main.children journal) ≤ call.told.place) (calls_in_block n lanes)
       past_front journal n past told k d within =
           let call = get_or (calls_in_block n lanes) k d in
@@ -308,7 +308,7 @@ module _ {S O R : Type 0} (admits : S → O → Type 0) (answer : S → List O �
                   (λ old among. old_low journal old mixes (All-contains (λ o. IsPrefix o journal) main.olds old olds among) (inr among)) main.olds (All-contains_itself main.olds);
               mixes = front_mixes journal mixes pre olds;
             };
-            follows = one_follows lanes (high_rest main.children journal) (block_mixes journal mixes pre olds);
+            in_order = one_follows lanes (high_rest main.children journal) (block_mixes journal mixes pre olds);
             told = All-cons (BlockTold answer main.start journal) lanes [] (lanes_told main journal lanes afters are seens) (All-nil (BlockTold answer main.start journal));
             rising = λ n. rise_of_block (length (low_front main.children journal)) lanes n (rise_past journal (lanes_told main journal lanes afters are seens) n (leb n main.children) refl);
           }

@@ -98,7 +98,7 @@ module _ {S O R : Type 0} (admits : S → O → Type 0) (answer : S → List O �
         rising = call_rises before mid call calls is rest.rising;
       }
 
-  -- Chains one behind the other.
+  -- Chains one after the other.
   pub chain_more : (before : Seated S O) (calls : List (Call O R)) (mid : Seated S O) (more : List (Call O R)) (after : Seated S O) → Chain admits answer before calls mid → Chain admits answer mid more after
       → Chain admits answer before (calls ++ more) after
   unfolding Chain

@@ -1,4 +1,4 @@
--- Journals in two pieces: which calls stand in which piece.
+-- Journals in two pieces: which calls are in which piece.
 use Rattle.std.proofs.Common.{◌≡◌, ℕ, zero, suc, ◌<◌, ◌≤◌, ◌+◌, List, [], ◌∷◌, ◌++◌, All, length, map, get_or, eq-eqb, arith, refl, sym, ap, subst, ◌∙◌, cond, leb, Bool, true, false, Some}
 use Rattle.std.specs.Prelude.{slice_get}
 use Rattle.std.proofs.lemmas.List.{length-append, append-nil, nil_from_length}
@@ -55,7 +55,7 @@ module _ {O : Type 0} where
       let none : calls_of n rest ≡ [] = nil_from_length (calls_of n rest) (omega (arith, lengths, enough)) in
       record { none = none; all = sym (append-nil (calls_of n front)) ∙ ap (λ l. calls_of n front ++ l) (sym none) ∙ parts }
 
-  -- Nothing stands behind a front that has as many calls of each lane as the whole.
+  -- Nothing follows a front that has as many calls of each lane as the whole.
   pub none_left : (front rest : List (Entry O)) (lanes : List (ℕ × List O)) → Mixes (front ++ rest) lanes → All (λ lane. length lane.1 ≤ length (calls_of lane.0 front)) lanes → rest ≡ []
   none_left front rest lanes mixes enough = no_calls rest (λ n. none_of (front ++ rest) rest lanes n mixes (no_call_behind n front rest)
       (λ k d within same. subst (λ m. calls_of m rest ≡ []) same (full_front (get_or lanes k d).0 (get_or lanes k d).1 front rest (mixes.each k d within) (enough k d within)).none))
@@ -67,7 +67,7 @@ module _ {O : Type 0} where
       sym (length-append (calls_of n xs) (calls_of n pre.0)) ∙ ap length (sym (calls_of-append n xs pre.0)) ∙ ap (λ l. length (calls_of n l)) pre.1 in
       omega (arith, lengths)
 
-  -- An entry of a lane stands behind a front in which the lane has no call.
+  -- An entry of a lane comes after a front in which the lane has no call.
   pub behind_front : (n : ℕ) (op : O) (front rest : List (Entry O)) (place : ℕ) → calls_of n front ≡ [] → slice_get (front ++ rest) place ≡ Some (entry n op) → length front ≤ place
   behind_front n op [] rest place none stands = omega arith
   behind_front n op (e ∷ front) rest zero none stands =

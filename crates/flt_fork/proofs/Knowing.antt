@@ -1,4 +1,4 @@
--- What a seat knows of the journal before its calls and behind them: stated of any machine.
+-- What a seat knows of the journal before its calls and after them: stated of any machine.
 use Rattle.std.proofs.Common.{◌≡◌, inl, inr, ⊎_elim, ℕ, List, [], ◌∷◌, ◌++◌, take, refl, ap, subst, sym, ◌∙◌}
 use Rattle.std.specs.Prelude.{Contains}
 use Rattle.std.proofs.lemmas.List.{append-nil}
@@ -14,13 +14,13 @@ use Rattle.flt_fork.specs.Known.{IsKnownTo}
 use Rattle.flt_fork.proofs.Journals.{prefix_trans}
 
 module _ {S O : Type 0} where
-  -- What was known before a call stands before it.
+  -- What was known before a call comes before it.
   pub known_before : (before after : Seated S O) (op : O) (place : ℕ) (known : List (Entry O)) → (ext : Extends before after op place) → IsKnownTo before known → IsPrefix known (before.seen ++ ext.between)
   known_before before after op place known ext =
       ⊎_elim (λ pre. prefix_trans known before.seen (before.seen ++ ext.between) pre (ext.between, refl))
       (λ old. prefix_trans known old.0 (before.seen ++ ext.between) old.2 (All-contains (λ o. IsPrefix o (before.seen ++ ext.between)) before.olds old.0 ext.olds old.1))
 
-  -- And is known behind it.
+  -- And is known after it.
   pub known_behind : (before after : Seated S O) (op : O) (place : ℕ) (known : List (Entry O)) → Extends before after op place → IsKnownTo before known → IsKnownTo after known
   known_behind before after op place known ext is =
       inl (subst (IsPrefix known) (sym ext.seen) (prefix_trans known (before.seen ++ ext.between) ((before.seen ++ ext.between) ++ _ ∷ []) (known_before before after op place known ext is) (_ ∷ [], refl)))
@@ -28,7 +28,7 @@ module _ {S O : Type 0} where
   pub knows_all : (seat : Seated S O) → IsKnownTo seat seat.seen
   knows_all seat = inl ([], append-nil seat.seen)
 
-  -- The calls behind what was known, up to a call.
+  -- The calls after what was known, up to a call.
   pub record Since (known : List (Entry O)) (before after : Seated S O) (op : O) (place : ℕ) : Type 0 where
     pub more : List (Entry O)
     pub seen : after.seen ≡ (known ++ more) ++ entry before.number op ∷ []
@@ -51,7 +51,7 @@ module _ {S O : Type 0} where
       ⊎_elim (λ pre. inl (subst (IsPrefix known) (sym seen) pre)) (λ old. inr (old.0, subst (λ l. Contains l old.0) (sym olds) old.1, old.2))
 
 module _ {S O R : Type 0} (admits : S → O → Type 0) (answer : S → List O → O → R) where
-  -- Also behind a chain of calls.
+  -- Also after a chain of calls.
   pub known_along : (before : Seated S O) (calls : List (Call O R)) (after : Seated S O) (known : List (Entry O)) → Chain admits answer before calls after → IsKnownTo before known → IsKnownTo after known
   unfolding Chain
   known_along before [] after known same is = subst (λ (s : Seated S O). IsKnownTo s known) (sym same) is

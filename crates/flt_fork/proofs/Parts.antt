@@ -1,4 +1,4 @@
--- What the calls of the main seat leave of it, and where they stand in any journal in which the lock could be closed then.
+-- What the calls of the main seat leave of it, and where they are in any journal in which the lock could be closed then.
 use Rattle.std.proofs.Common.{◌≡◌, ℕ, zero, suc, ◌≤◌, ◌+◌, List, [], ◌∷◌, ◌++◌, All, length, get_or, arith, refl, sym, ap, subst, ◌∙◌}
 use Rattle.std.specs.Prelude.{Contains}
 use Rattle.std.proofs.lemmas.List.{append-nil, append_assoc, length-append, map-append}
@@ -29,7 +29,7 @@ nothing_mixes {O} number = record {
 }
 
 module _ {O R : Type 0} where
-  -- The calls of one lane, one behind the other.
+  -- The calls of one lane, one after the other.
   alone_more : (number : ℕ) (xs ys : List (Call O R)) (first second : List (Entry O)) → Mixes first (asked_of ((number, xs) ∷ [])) → Mixes second (asked_of ((number, ys) ∷ []))
       → Mixes (first ++ second) (asked_of ((number, xs ++ ys) ∷ []))
   alone_more number xs ys first second a b =
@@ -43,7 +43,7 @@ module _ {O R : Type 0} where
       }
 
 module _ {S O R : Type 0} (admits : S → O → Type 0) (answer : S → List O → O → R) where
-  -- ---- no call, and blocks behind others
+  -- ---- no call, and blocks after others
 
   pub lived_none : (main : Seated S O) → IsMain main → HasLived {R = R} answer main main 0 []
   unfolding HasInOrder
@@ -52,7 +52,7 @@ module _ {S O R : Type 0} (admits : S → O → Type 0) (answer : S → List O �
     start_is = refl;
     lock_is = refl;
     children_is = omega arith;
-    trails = λ journal whole. record { before = journal; rest = []; split = sym (append-nil journal); whole = whole; follows = refl; told = All-nil (BlockTold answer main.start journal); rising = λ number. rise_none (length journal) [] refl };
+    trails = λ journal whole. record { before = journal; rest = []; split = sym (append-nil journal); whole = whole; in_order = refl; told = All-nil (BlockTold answer main.start journal); rising = λ number. rise_none (length journal) [] refl };
   }
 
   pub lived_more : (main mid after : Seated S O) (seats more_seats : ℕ) (blocks more : List (Block O R)) → HasLived answer main mid seats blocks → HasLived answer mid after more_seats more
@@ -70,7 +70,7 @@ module _ {S O R : Type 0} (admits : S → O → Type 0) (answer : S → List O �
           rest = trail.rest ++ last.rest;
           split = last.split ∙ ap (λ l. l ++ last.rest) trail.split ∙ append_assoc trail.before trail.rest last.rest;
           whole = trail.whole;
-          follows = follow_more blocks more trail.rest last.rest trail.follows last.follows;
+          in_order = follow_more blocks more trail.rest last.rest trail.in_order last.in_order;
           told = All-append (BlockTold answer main.start journal) blocks more
               (blocks_longer answer main.start last.before journal blocks (last.rest, sym last.split) trail.told)
               (subst (λ s. All (BlockTold answer s journal) more) lived.start_is last.told);
@@ -103,7 +103,7 @@ module _ {S O R : Type 0} (admits : S → O → Type 0) (answer : S → List O �
       rest = [];
       split = sym (append-nil journal);
       whole = whole;
-      follows = one_follows ((0, []) ∷ []) [] (nothing_mixes 0);
+      in_order = one_follows ((0, []) ∷ []) [] (nothing_mixes 0);
       told = alone_told main.start journal [] (All-nil (IsToldInPlace answer main.start journal 0));
       rising = rise_alone (length journal) [] (rise_none (length journal) [] refl);
     };
@@ -123,8 +123,8 @@ module _ {S O R : Type 0} (admits : S → O → Type 0) (answer : S → List O �
           rest = trail.rest ++ last.rest;
           split = last.split ∙ ap (λ l. l ++ last.rest) trail.split ∙ append_assoc trail.before trail.rest last.rest;
           whole = trail.whole;
-          follows = one_follows ((0, xs ++ ys) ∷ []) (trail.rest ++ last.rest)
-              (alone_more 0 xs ys trail.rest last.rest (follows_one ((0, xs) ∷ []) trail.rest trail.follows) (follows_one ((0, ys) ∷ []) last.rest last.follows));
+          in_order = one_follows ((0, xs ++ ys) ∷ []) (trail.rest ++ last.rest)
+              (alone_more 0 xs ys trail.rest last.rest (follows_one ((0, xs) ∷ []) trail.rest trail.in_order) (follows_one ((0, ys) ∷ []) last.rest last.in_order));
           told = alone_told main.start journal (xs ++ ys) (All-append (IsToldInPlace answer main.start journal 0) xs ys
               (calls_longer answer main.start last.before journal 0 xs (last.rest, sym last.split) (told_alone main.start last.before xs trail.told))
               (subst (λ s. All (IsToldInPlace answer s journal 0) ys) lived.start_is (told_alone mid.start journal ys last.told)));
@@ -228,7 +228,7 @@ module _ {S O R : Type 0} (admits : S → O → Type 0) (answer : S → List O �
               olds = ext.olds;
               mixes = before_mixes (subst (λ j. Mixes j ((main.number, main.mine ++ op ∷ []) ∷ main.ended)) journal_is (subst (Mixes journal) lanes_are whole.mixes));
             };
-            follows = one_follows ((0, call ∷ []) ∷ []) (first ∷ []) block_mixes;
+            in_order = one_follows ((0, call ∷ []) ∷ []) (first ∷ []) block_mixes;
             told = alone_told main.start journal (call ∷ []) (All-cons (IsToldInPlace answer main.start journal 0) call [] told (All-nil (IsToldInPlace answer main.start journal 0)));
             rising = rise_alone (length front) (call ∷ []) (rise_one (length front) call (omega (arith, ext.place_is)));
           }

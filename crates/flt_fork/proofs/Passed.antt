@@ -48,7 +48,7 @@ module _ {M X Y : Type 0} (passes : M → X → M → Y → Type 0) where
       let more = passed_same f h one are.0 xs after ys are.2 in
       λ i. first i ∷ more i
 
-  -- So it is behind what was there before.
+  -- So it is after what was there before.
   pub passed_behind : {Z : Type 0} (f : X → Z) (h : Y → Z) → ((before : M) (x : X) (after : M) (y : Y) → passes before x after y → h y ≡ f x)
       → (before : M) (xs : List X) (after : M) (old now more : List Y) → now ≡ old ++ more → HavePassed passes before xs after more → map h now ≡ map h old ++ map f xs
   passed_behind f h one before xs after old now more is are = ap (map h) is ∙ map-append h old more ∙ ap (λ l. map h old ++ l) (passed_same f h one before xs after more are)
@@ -109,7 +109,7 @@ module _ {M X Y : Type 0} (passes : M → X → M → Y → Type 0) where
 
 -- ---- some of them
 
--- So many passed: what comes out is put behind what is there, and the others may pass.
+-- This many passed: what comes out is put after what is there, and the others may pass.
 pub record IsPassing {M X Y A : Type 0} (passes : M → X → M → Y → Type 0) (can_pass : M → List X → Type 0) (main now : M) (lanes : List X) (before out : Vec Y A) (done rest : List X) : Type 0 where
   pub all : done ++ rest ≡ lanes
   pub can : can_pass now rest
@@ -166,7 +166,7 @@ module _ {S O : Type 0} (main after seat : Seated S O) where
   }
 
 module _ {S O : Type 0} (lock : _) (main after seat : Seated S O) where
-  -- The other seats can be split off behind it.
+  -- The other seats can be split off after it.
   pub splits_on : (calls seats all_seats more all_calls : ℕ) → Splits main calls after seat → all_seats ≡ seats + 1 → all_calls ≡ calls + more → CanSplit lock main all_seats all_calls → CanSplit lock after seats more
   splits_on calls seats all_seats more all_calls is count sum can = record {
     main_is = record {
@@ -177,7 +177,7 @@ module _ {S O : Type 0} (lock : _) (main after seat : Seated S O) where
     enough = let left = ap (λ (s : Seated S O). s.left) is.after_is in omega (arith, left, sum, can.enough, is.enough);
   }
 
-  -- And joined behind it.
+  -- And joined after it.
   pub joins_on : after ≡ joined_seat main seat → IsMainOf lock main → IsMainOf lock after
   joins_on is main_is = record {
     lock_is = ap (λ (s : Seated S O). s.lock) is ∙ main_is.lock_is;

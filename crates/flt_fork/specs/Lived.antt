@@ -1,4 +1,4 @@
--- What blocks leave of the main seat of a lock, and what the journal tells of them once the lock is closed: stated of any machine.
+-- What blocks leave of the main seat of a lock, and what the journal says of them once the lock is closed: stated of any machine.
 use Rattle.std.specs.Prelude.{◌≡◌, ℕ, ◌+◌, ◌<◌, ◌≤◌, List, ◌∷◌, ◌++◌, All, Contains, length}
 use mathlib.Core.List.{IsPrefix}
 use Rattle.flt_turn.specs.declared.vault.Entry.{Entry}
@@ -27,18 +27,18 @@ pub record CouldClose {S O : Type 0} (main : Seated S O) (journal : List (Entry 
   pub olds : All (λ old. IsPrefix old journal) main.olds
   pub mixes : Mixes journal ((main.number, main.mine) ∷ main.ended)
 
--- Behind a journal that the lock could have left before these blocks, the journal has their calls, and each is answered there; and the
--- places that a lane is told rise.
+-- After a journal that the lock could have left before these blocks, the journal has their calls, and each is answered there; and the
+-- places that a lane is given rise.
 pub record Trails {S O R : Type 0} (answer : S → List O → O → R) (main : Seated S O) (blocks : List (Block O R)) (journal : List (Entry O)) : Type 0 where
   pub before : List (Entry O)
   pub rest : List (Entry O)
   pub split : journal ≡ before ++ rest
   pub whole : CouldClose main before
-  pub follows : HasInOrder blocks rest
+  pub in_order : HasInOrder blocks rest
   pub told : All (BlockTold answer main.start journal) blocks
   pub rising : (number : ℕ) → Rise (length before) (calls_in_lane number blocks)
 
--- These blocks were carried out, on so many split seats.
+-- These blocks were carried out, on this many split seats.
 pub record HasLived {S O R : Type 0} (answer : S → List O → O → R) (main after : Seated S O) (seats : ℕ) (blocks : List (Block O R)) : Type 0 where
   pub main_after : IsMain after
   pub start_is : after.start ≡ main.start

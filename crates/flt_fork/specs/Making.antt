@@ -4,7 +4,7 @@ use Rattle.std.specs.Prelude.{◌≡◌, ℕ, ◌+◌, List, [], ◌∷◌, ◌+
 use Rattle.flt_fork.specs.Mixing.{Call, Block}
 
 module _ {T A O R : Type 0} (MadeBy : T → A → List (Call O R) → Type 0) where
-  -- The calls of steps that were answered so: those of each step behind those of the steps before it.
+  -- The calls of steps that were answered so: those of each step after those of the steps before it.
   unfoldable pub AreMadeBy : List T → List A → List (Call O R) → Type 0
   AreMadeBy [] [] calls = calls ≡ []
   AreMadeBy [] (answer ∷ answers) calls = ⊥

@@ -34,7 +34,7 @@ HasInOrder [] journal = journal ≡ []
 HasInOrder {O} {R} (lanes ∷ blocks) journal = (block : List (Entry O)) × (rest : List (Entry O)) × (journal ≡ block ++ rest)
     × Mixes block (asked_of lanes) × HasInOrder blocks rest
 
--- A call of this lane is at the place that it was told, and is answered after the calls before that place.
+-- A call of this lane is at the place that its answer gives, and is answered after the calls before that place.
 pub record IsToldInPlace {S O R : Type 0} (answer : S → List O → O → R) (start : S) (journal : List (Entry O)) (lane : ℕ) (call : Call O R) : Type 0 where
   pub stands : slice_get journal call.told.place ≡ Some (entry lane call.op)
   pub reply : call.told.reply ≡ answer start (ops_before call.told.place journal) call.op

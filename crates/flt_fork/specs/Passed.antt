@@ -16,13 +16,13 @@ module _ {S O : Type 0} where
     pub lock_is : IsSeatOf lock main
     pub number_is : main.number ≡ 0
 
-  -- And so many seats can be split from it, with so many calls in all.
+  -- And this many seats can be split from it, with this many calls in all.
   pub record CanSplit (lock : _) (main : Seated S O) (seats calls : ℕ) : Type 0 where
     pub main_is : IsMainOf lock main
     pub numbers : main.children + seats < 2 ^ 32
     pub enough : calls ≤ main.left
 
-  -- A seat with so many calls was split from the main seat.
+  -- A seat with this many calls was split from the main seat.
   pub record Splits (main : Seated S O) (calls : ℕ) (after seat : Seated S O) : Type 0 where
     pub enough : calls ≤ main.left
     pub after_is : after ≡ split_off calls main

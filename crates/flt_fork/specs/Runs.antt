@@ -1,5 +1,5 @@
 -- What the steps of a lane do on a lock: each makes its calls, each call at its own place of the journal, and is answered by them.
--- A machine is told by what it admits and answers, by the calls that a step makes of it, and by how many they are at most.
+-- A machine is given by what it admits and answers, by the calls that a step makes of it, and by how many they are at most.
 use Rattle.std.specs.Prelude.{ℕ, ◌+◌, ◌≤◌, List, [], ◌∷◌, length}
 use Rattle.flt_turn.specs.Seats.{Seated}
 use Rattle.flt_fork.specs.Chain.{Chain}

@@ -3,7 +3,7 @@ use Rattle.std.specs.Prelude.{◌≡◌, ℕ, ◌+◌, ◌≤◌, List, [], ◌+
 use Rattle.flt_turn.specs.Seats.{Seated}
 
 module _ {S O : Type 0} where
-  -- A seat that was split from the main seat: it knows what that one knew, and has so many calls.
+  -- A seat that was split from the main seat: it knows what that one knew, and has this many calls.
   pub record IsSplitSeat (main : Seated S O) (number calls : ℕ) (seat : Seated S O) : Type 0 where
     pub number_is : seat.number ≡ number
     pub start_is : seat.start ≡ main.start
@@ -12,7 +12,7 @@ module _ {S O : Type 0} where
     pub mine_is : seat.mine ≡ []
     pub left_is : seat.left ≡ calls
 
-  -- The main seat, when so many seats with so many calls in all were split from it.
+  -- The main seat, when this many seats with this many calls in all were split from it.
   pub record IsSplitOff (main after : Seated S O) (seats calls : ℕ) : Type 0 where
     pub number_is : after.number ≡ main.number
     pub start_is : after.start ≡ main.start

@@ -50,7 +50,7 @@ pub fn work_beside<R: Threads + Wait + Sync, C: Sync, G: Sync, W: Work<C, G> + S
     for_each_mut(rt, works, each, &one);
 }
 
-/// Does all work at once, likewise, and a piece of its own in this thread beside it.
+/// Does all work at once in the same way, and a piece of its own in this thread beside it.
 pub(crate) fn work_with<
     R: Threads + Wait + Sync,
     C: Sync,
@@ -72,7 +72,7 @@ pub(crate) fn work_with<
     join_mut(rt, &mut others, own);
 }
 
-/// Does all work at once, likewise, but the first, which has `owned` to itself, in this thread.
+/// Does all work at once in the same way, but the first, which has `owned` to itself, in this thread.
 pub fn work_first<
     R: Threads + Wait + Sync,
     C: Sync,

@@ -9,7 +9,7 @@ pub trait Passing<M, X, Y> {
     /// These lanes may pass, in this order.
     ghost can_pass: { Self → M → List X → Type 0 };
 
-    /// The main seats before, a lane, the main seats behind it, and what comes out.
+    /// The main seats before, a lane, the main seats after it, and what comes out.
     ghost passes: { Self → M → X → M → Y → Type 0 };
 
     fn pass(&self, main: &mut M, lane: X) -> Y
@@ -18,7 +18,7 @@ pub trait Passing<M, X, Y> {
         ensures later { (later : List X) → can_pass self.now main.old (lane ∷ later) → can_pass self.now main.new later };
 }
 
-/// Lets lanes pass one after the other, and puts what comes out behind what is there. No memory is taken: there is room for it.
+/// Lets lanes pass one after the other, and puts what comes out after what is there. No memory is taken: there is room for it.
 pub fn pass_all<L: Passing<M, X, Y>, M, X: Drop, Y: Drop>(
     locks: &L,
     main: &mut M,

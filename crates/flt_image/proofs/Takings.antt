@@ -31,7 +31,7 @@ pub takes : {o : Option Persist} (before after state : Persist) → o ≡ Some s
 takes before after state some same = subst (λ (o : Option Persist). TakesIn o true before after) (sym some) (refl, same)
 
 -- ---- the states of sixteen events
--- The same states give the same bytes, wherever they stand.
+-- The same states give the same bytes, wherever they are.
 moved_states : (xs ys : List EventState) (from first count : ℕ) → ((place : ℕ) → place < count → slice_index_or xs (from + place) start_state ≡ slice_index_or ys (first + place) start_state)
     → first_states xs from count ≡ first_states ys first count
 moved_states xs ys from first zero same = no_states xs from ∙ sym (no_states ys first)

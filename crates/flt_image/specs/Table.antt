@@ -7,15 +7,15 @@ use Rattle.flt_nvm.specs.declared.table.BlockCfg.{BlockCfg}
 use Rattle.flt_store_model.specs.Layout.{mark_id, commit_id, summary_id, first_states_id, states_blocks, first_entry_id, most_entries, later_states_id, later_states_blocks, first_application, applications}
 use Rattle.flt_store_model.specs.Form.{mark_length, commit_length, summary_length, states_length, entry_length, application_length}
 
--- A block of this kind that holds so many bytes.
+-- A block of this kind that holds this many bytes.
 abbrev pub block_row : Kind → ℕ → ℕ → BlockCfg
 block_row kind length id = record { id = id; kind = kind; length = length }
 
--- So many of them, from this identifier on.
+-- This many of them, from this identifier on.
 unfoldable pub rows : Kind → ℕ → ℕ → ℕ → List BlockCfg
 rows kind length first count = map (block_row kind length) (range_with_len first count)
 
--- A part stands at one of two indices.
+-- A part is at one of two indices.
 abbrev pub part : Kind
 part = Dataset 2
 

@@ -24,7 +24,7 @@ pub struct StateBlocks {
     ghost size: { length blocks.items ≡ parts },
 }
 
-/// Puts these bytes in place of those that stand there.
+/// Puts these bytes in place of those that are there.
 fn put_over(bytes: &[u8], kept: &mut KeptBytes)
     requires { length bytes.now ≤ LONGEST }
     ensures { kept.new.items ≡ bytes.now }
@@ -49,7 +49,7 @@ impl StateBlocks {
         StateBlocks { blocks }
     }
 
-    /// Gives each used block its bytes of a state that fits, in place of those that stand there.
+    /// Gives each used block its bytes of a state that fits, in place of those that are there.
     pub fn put_all(&mut self, config: &ValidConfig, state: &Persist)
         requires { Fits config.now state.now }
         ensures { AreBlocksOf config.now state.now (bytes_at self.new) }
@@ -64,7 +64,7 @@ impl StateBlocks {
         requires first { first_part ≤ id }
         requires end { id < end_part }
         requires fits { Fits config.now state.now }
-        ensures given { IsTrue (is_used config.now id) → bytes_at self.new id ≡ block_bytes state.now id }
+        ensures has_bytes { IsTrue (is_used config.now id) → bytes_at self.new id ≡ block_bytes state.now id }
         ensures size { IsTrue (is_used config.now id) → length (bytes_at self.new id) ≡ part_length (part_of_block id) }
         ensures others { (other : ℕ) → first_part ≤ other → other ≢ id → bytes_at self.new other ≡ bytes_at self.old other }
     {
@@ -89,7 +89,7 @@ impl StateBlocks {
         requires first { first_part ≤ id }
         requires end { id < end_part }
         requires short { length bytes.now ≤ LONGEST }
-        ensures given { bytes_at self.new id ≡ bytes.now }
+        ensures has_bytes { bytes_at self.new id ≡ bytes.now }
         ensures others { (other : ℕ) → first_part ≤ other → other ≢ id → bytes_at self.new other ≡ bytes_at self.old other }
     {
         put_over(bytes, &mut self.blocks[(id - FIRST_PART) as usize]);

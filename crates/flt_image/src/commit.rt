@@ -81,7 +81,7 @@ pub fn put_commit_1(commit: &Commit) -> [u8; COMMIT_LENGTH]
 }
 
 /// The commit after this one, or the first: the next number, and each used block at 0 in the first; else, where its bytes before and
-/// after are the same, at the index where it stands, and at the other where they differ.
+/// after are the same, at the index where it is, and at the other where they differ.
 pub fn next_commit(
     config: &ValidConfig,
     current: &Option<Commit>,
@@ -183,7 +183,7 @@ fn generation_in(bytes: &[u8]) -> u32
     u32::from_be_bytes(generation)
 }
 
-/// The commit whose numbers stand in these bytes of version 1.
+/// The commit whose numbers are in these bytes of version 1.
 #[tactic(auto, unfolding(flt_store_model::specs::Reading::commit_from_1))]
 fn commit_from_1(bytes: &[u8]) -> Commit
     requires { length bytes.now ≡ commit_length }
@@ -220,7 +220,7 @@ fn index_by_bit(config: &ValidConfig, bytes: &[u8], id: u16) -> u8
     }
 }
 
-/// The commit whose numbers stand in these bytes of version 2.
+/// The commit whose numbers are in these bytes of version 2.
 #[tactic(auto, unfolding(flt_store_model::specs::Reading::commit_from))]
 fn commit_from(config: &ValidConfig, bytes: &[u8]) -> Commit
     requires { length bytes.now ≡ commit_length_2 }
@@ -264,7 +264,7 @@ fn get_commit_2(config: &ValidConfig, bytes: &[u8]) -> Option<Commit>
     }
 }
 
-/// The first byte tells version 1.
+/// The first byte says that it is version 1.
 fn is_version_1(bytes: &[u8]) -> bool
     ensures { result ≡ (slice_index bytes.now 0 == 1) }
 {

@@ -43,7 +43,7 @@ fn put_no_entry(out: &mut BlockBytes)
     push_zeros(out, ENTRY_LENGTH - 2);
 }
 
-/// Puts the entry at a place, or what stands for none.
+/// Puts the entry at a place, or the bytes that mean none.
 pub(crate) fn put_place(entries: &[EntryState], place: u16, out: &mut BlockBytes)
     requires { length out.old.items ≡ 0 }
     ensures items { out.new.items ≡ place_bytes (slice_get entries.now place) }

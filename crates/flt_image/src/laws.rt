@@ -10,7 +10,7 @@ pub fn numbers_serve_table()
     ensures { IsTrue (serves numbers block_table) }
 {}
 
-/// No number of an image stands twice, as a driver asks of its numbers.
+/// No number of an image is there twice, as a driver asks of its numbers.
 pub fn numbers_are_distinct()
     ensures { AllPairs (λ a b. a ≢ b) numbers }
 {}

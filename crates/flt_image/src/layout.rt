@@ -12,7 +12,7 @@ use flt_store_model::{
 /// How many events have their states in one block.
 const PER_BLOCK: u16 = STATES_PER_BLOCK as u16;
 
-/// The first event whose state stands behind the entries.
+/// The first event whose state comes after the entries.
 const LATER_EVENT: u16 = STATES_BLOCKS * PER_BLOCK;
 
 /// The part of a generation that a block holds.
@@ -69,7 +69,7 @@ pub fn used_ids(config: &ValidConfig) -> ArrayVec<u16, INDICES>
     ids
 }
 
-/// Puts a block behind the others, if it is used.
+/// Puts a block after the others, if it is used.
 fn push_used(config: &ValidConfig, id: u16, ids: &mut ArrayVec<u16, INDICES>)
     requires room { length ids.old.items < parts }
     ensures items { ids.new.items ≡ ids.old.items ++ (if is_used config.now id then id ∷ [] else []) }

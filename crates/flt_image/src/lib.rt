@@ -1,6 +1,6 @@
-//! The bytes of the blocks of a generation: written from a durable state, and read again with every form and fit told apart.
+//! The bytes of the blocks of a generation: written from a durable state, and read again with every form and fit distinguished.
 //!
-//! It stands on `flt_config`, on the definitions of `flt_store_model`, and for the table of blocks on `flt_nvm`. The store
+//! It depends on `flt_config`, on the definitions of `flt_store_model`, and for the table of blocks on `flt_nvm`. The store
 //! above writes with the `put` calls and reads with the `get` calls, which answer as `specs/Reading` of `flt_store_model`
 //! says. Read there `specs/Layout` and `specs/Form` first; here `specs/Taking` says what a block that is read leaves.
 #![tactic(auto)]

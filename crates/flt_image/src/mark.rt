@@ -12,7 +12,7 @@ use flt_store_model::{MARK_LENGTH, Mark};
 pub fn mark_of(config: &ValidConfig) -> Mark
     ensures value { result ≡ mark_of config.now }
     ensures fields { IsMark result }
-    ensures given { IsGiven config.now }
+    ensures valid_config { IsGiven config.now }
 {
     let config = config.config();
     mark_with(config.id, config.events.len() as u16, config.memory)
@@ -62,7 +62,7 @@ fn are_bytes_of(bytes: &[u8], mark: &Mark) -> bool
     bytes == &put_mark(mark)[..] || bytes == &put_mark_1(mark)[..]
 }
 
-/// The mark whose numbers stand in these bytes.
+/// The mark whose numbers are in these bytes.
 #[tactic(auto, unfolding(flt_store_model::specs::Reading::mark_from))]
 fn mark_from(bytes: &[u8]) -> Mark
     requires { length bytes.now ≡ mark_length }

@@ -1,4 +1,4 @@
-//! Bytes that are put one behind the other, and read at their place.
+//! Bytes that are put one after the other, and read at their place.
 ghost use Rattle.std.specs.Prelude.{◌≡◌, ◌≤◌, ◌<◌, ◌+◌, ◌++◌, length, replicate};
 ghost use Rattle.flt_store_model.specs.Reading.{word_at};
 

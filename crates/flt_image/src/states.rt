@@ -80,7 +80,7 @@ fn set_state(states: &mut ArrayVec<EventState, EVENTS>, event: usize, state: Eve
     states[event] = state;
 }
 
-/// Gives the events from `first` on the states that stand in a block.
+/// Gives the events from `first` on the states that are in a block.
 fn set_states(states: &[EventState], first: u16, into: &mut ArrayVec<EventState, EVENTS>)
     requires { first + length states.now ≤ length into.old.items }
     ensures { (held : List ℕ) → states.now ≡ block_states held (length states.now)

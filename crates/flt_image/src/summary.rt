@@ -10,7 +10,7 @@ use arrayvec::ArrayVec;
 use flt_config::{ENTRIES, EntryState, Persist, ValidConfig, is_noted};
 use flt_store_model::SUMMARY_LENGTH;
 
-/// What stands for no event.
+/// The number that means no event.
 const NO_EVENT: u16 = 0xFFFF;
 
 fn note_bytes(note: Option<u16>) -> [u8; 2]

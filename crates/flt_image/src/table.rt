@@ -11,10 +11,10 @@ use flt_store_model::{
 };
 use std::alloc::{AllocError, Global};
 
-/// A part stands at one of two indices.
+/// A part is at one of two indices.
 const PART: Kind = Kind::Dataset(2);
 
-/// Puts so many blocks of one kind and length behind the others, with one identifier after another.
+/// Puts this many blocks of one kind and length after the others, with one identifier after another.
 fn push_rows(
     table: &mut Vec<BlockCfg>,
     kind: Kind,

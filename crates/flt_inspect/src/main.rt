@@ -1,6 +1,6 @@
 //! The second program: it reads a dump, a script or a trace on standard input, and writes to standard output what is to be said of it.
 //!
-//! It stands on `flt_io`, `flt_did` and `flt_examine`, and makes the one call `examine` over the real streams, with the program's table of
+//! It depends on `flt_io`, `flt_did` and `flt_examine`, and makes the one call `examine` over the real streams, with the program's table of
 //! data identifiers.
 #![tactic(auto)]
 

@@ -1,9 +1,9 @@
 //! Where bytes come from and where they go, each with a count of its faults.
 //!
-//! It stands on std, and on `thiserror` for its faults. The crates above use two traits: `Source`, whose `pull` moves the next bytes, and `Sink`, whose
-//! `push` takes a whole piece or fails after a prefix of it; either fails only if the object's count of faults rose.
+//! It depends on std, and on `thiserror` for its faults. The crates above use two traits: `Source`, whose `pull` moves the next bytes, and
+//! `Sink`, whose `push` takes a whole piece or fails after a prefix of it; either fails only if the object's count of faults rose.
 //! `read_front` reads a source to its end, or up to a number of bytes.
-//! `MemSource` and `MemSink` are in memory and fail when they are told to; `ReadSource` and `WriteSink` are over std's
+//! `MemSource` and `MemSink` are in memory and fail where a test asks for it; `ReadSource` and `WriteSink` are over std's
 //! readers and writers; `Discard` is a sink that keeps nothing. `command_words` has the words of a program, and `Status` how it ends, with
 //! the number of its exit status (`specs/Status.antt`). Read `specs/Fault.antt` first, then `specs/Sink.antt`; `Writes` of
 //! `specs/Written.antt` is what the writers above promise of a text.

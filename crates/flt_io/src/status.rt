@@ -13,7 +13,7 @@ pub enum Status {
     Refused = 2,
     /// Reading failed.
     ReadFault = 3,
-    /// Writing failed; it stands in place of the status that was due.
+    /// Writing failed; it takes the place of the status that was due.
     WriteFault = 4,
     /// The last life is dark, since the device failed three times in one job of its start-up.
     Dark = 5,
@@ -25,7 +25,7 @@ pub enum Status {
     SequenceSpent = 8,
     /// The input has more bytes than are taken.
     InputLarge = 9,
-    /// The lines behind the configuration of a dump are not the pages of its image.
+    /// The lines after the configuration of a dump are not the pages of its image.
     NoPages = 10,
     /// The input is no JSON.
     NoJson = 11,

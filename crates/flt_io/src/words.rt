@@ -4,7 +4,7 @@ use std::io::ErrorKind;
 use std::rt::Env;
 use std::{env, io};
 
-/// The words behind the program's name.
+/// The words after the program's name.
 fn read_words(rt: &(impl Env + AllocGlobal)) -> io::Result<Vec<String>> {
     let mut words = Vec::new(rt.alloc());
     for word in env::args(rt)?.skip(1) {
@@ -13,7 +13,7 @@ fn read_words(rt: &(impl Env + AllocGlobal)) -> io::Result<Vec<String>> {
     Ok(words)
 }
 
-/// The words behind the program's name. Where one of them is no text there are none, as words that are no text are no command.
+/// The words after the program's name. Where one of them is no text there are none, as words that are no text are no command.
 ///
 /// # Errors
 ///

@@ -57,19 +57,19 @@ module _ {B : Type 0} {b : Ghosts B} (c : Config) where
       record {
         made = made;
         carries = carries_call c seat after jobs jobs_after step made.answer store (leaves_store step call) made.dem made.queue;
-        goes_on = goes_nowhere (driver_of store);
-        given = subst (λ (l : List Arm). WereGiven l arms arms) (sym (makes_no_arm step call)) (none_given arms);
+        keeps_driver = goes_nowhere (driver_of store);
+        arms_made = subst (λ (l : List Arm). WereGiven l arms arms) (sym (makes_no_arm step call)) (none_given arms);
         armed = omega arith;
       }
 
-  -- A step that may stand in a lane, and has calls of the driver behind it.
+  -- A step that may be in a lane, and has calls of the driver after it.
   pub takes_deed : (seat after : Seat) (jobs jobs_after : QueueSeat) (step : Step) (told : Told) (replies kept : LaneReplies) (store now : Store B b) → is_lane_step step ≡ true → KeepsAnswer replies kept step told → Makes seat step told after
       → Queues jobs step told jobs_after → ((earlier : List Deed) → Carries c seat after jobs jobs_after earlier (with_deed step told earlier) store now) → LeavesStore store now
       → TakesStep c seat after jobs jobs_after step replies kept store now
   takes_deed seat after jobs jobs_after step told replies kept store now is keeps dem queue carries leaves = record {
     made = record { answer = told; keeps = keeps; dem = dem; queue = queue };
     carries = carries;
-    goes_on = leaves.goes_on;
-    given = subst (λ (l : List Arm). WereGiven l (driver_of store).device.bench.arms (driver_of now).device.bench.arms) (sym (no_arms step is)) leaves.given;
+    keeps_driver = leaves.keeps_driver;
+    arms_made = subst (λ (l : List Arm). WereGiven l (driver_of store).device.bench.arms (driver_of now).device.bench.arms) (sym (no_arms step is)) leaves.arms_made;
     armed = let armed = leaves.armed in omega (arith, armed);
   }

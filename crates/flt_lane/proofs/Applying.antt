@@ -40,7 +40,7 @@ newest_of journal = reverse (ops_of journal)
 pub newest_more : (journal : List (Entry QueueOp)) (e : Entry QueueOp) → newest_of (journal ++ e ∷ []) ≡ e.op ∷ newest_of journal
 newest_more journal e = ap reverse (map-append (λ (e : Entry QueueOp). e.op) journal (e ∷ [])) ∙ reverse-append (ops_of journal) (e.op ∷ [])
 
--- ---- behind calls of steps
+-- ---- after calls of steps
 
 module _ (first : ℕ → Content) (jobs : ℕ) (deeds : List Deed) (values : ℕ → Content) where
   pub held_further : (journal more : List (Entry QueueOp)) → All (λ (e : Entry QueueOp). IsQueueCall e.op) more → AreHeld first (newest_of journal) jobs deeds values → AreHeld first (newest_of (journal ++ more)) jobs deeds values

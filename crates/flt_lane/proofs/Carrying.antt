@@ -155,7 +155,7 @@ module _ {B : Type 0} {b : Ghosts B} (c : Config) (dem : Seat) (jobs after : Que
         held = λ few.
             (let held = done.held (omega (arith, few, calls_are)) in
             record {
-              done = sym jobs_are ∙ held.done;
+              counts_jobs = sym jobs_are ∙ held.counts_jobs;
               held = subst (λ n. HoldApplications first (up_to_done n (reverse (ops_of done.known))) (driver_of now).value) jobs_are held.held;
               got = (tt, held.got);
               told = omega arith;

@@ -1,4 +1,4 @@
--- How a drain ends: behind its 32nd job, or where no job waits.
+-- How a drain ends: after its 32nd job, or where no job waits.
 use Rattle.std.proofs.Common.{◌≡◌, ℕ, ◌<◌, ◌+◌, ◌*◌, List, ◌∷◌, refl, ap, sym, arith}
 use Rattle.std.specs.Prelude.{nat_lt}
 use Rattle.std.proofs.lemmas.Bool.{lt-ltb, le-ltb}

@@ -108,7 +108,7 @@ in_hand before after told job call is =
     let reply : replies.Job job ≡ handed_out (job_behind (newest_of front)) = sym is ∙ call.reply ∙ ap (λ l. handed_out (next_of (waiting (reverse l)))) at.ops_are in
     subst (IsInHand job) (sym (newest_seen front after.seen (entry before.number ops.Take) at.seen)) (hand_taken job (newest_of front) (handed_job (job_behind (newest_of front)) job reply))
 
--- ---- the note of what became of a job, right behind its take
+-- ---- the note of what became of a job, right after its take
 
 module _ (first : ℕ → Content) (before mid after : QueueSeat) (taken noted : Answer QueueReply) (job : Job) (written : Bool) (take : IsCall before mid ops.Take taken) (is_job : taken.reply ≡ replies.Job job)
     (done : IsCall mid after (ops.Done job.block written) noted) (calls jobs : ℕ) (deeds : List Deed) (values now : ℕ → Content) (wrote : IsWritten job written values now) (holds : HoldsBy first before calls jobs deeds values) where
@@ -180,7 +180,7 @@ module _ {B : Type 0} {b : Ghosts B} (c : Config) where
     all = refl;
     chain = refl;
     drains = drains_nothing seat store;
-    left = omega arith;
+    calls_used = omega arith;
     start = refl;
     lock = refl;
   }
@@ -192,7 +192,7 @@ module _ {B : Type 0} {b : Ghosts B} (c : Config) where
       let jobs = so_far.jobs ++ job ∷ [] in
       let fact = chain_fact queue.IsQueueCallFor queued.reply_after mid (calls_for job) after takes.chain in
       let left = fact.left_is in
-      let before_left = so_far.left in
+      let before_left = so_far.calls_used in
       let count_is = so_far.count_is in
       let written_is = so_far.written_is in
       let failed_is = so_far.failed_is in
@@ -209,7 +209,7 @@ module _ {B : Type 0} {b : Ghosts B} (c : Config) where
             (chain_more queue.IsQueueCallFor queued.reply_after before (calls_for_all so_far.jobs) mid (calls_for job) after so_far.chain takes.chain);
         drains = drains_further before mid after (2 * count) 2 count 1 failed (one_if (not was)) (2 * (count + 1)) (count + 1) (failed + one_if (not was)) store middle now (omega arith) (omega arith) (omega arith)
             so_far.drains takes.drains;
-        left = omega (arith, left, before_left);
+        calls_used = omega (arith, left, before_left);
         start = fact.start_is ∙ so_far.start;
         lock = fact.lock_is ∙ so_far.lock;
       }

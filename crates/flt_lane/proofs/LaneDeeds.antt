@@ -17,7 +17,7 @@ use Rattle.flt_life_model.proofs.DeedLists.{deed_if-append}
 
 -- ---- one step more
 
--- Its deed stands behind those of the steps before it.
+-- Its deed comes after those of the steps before it.
 pub lane_deeds_more : (steps : List Step) (told : List Told) (step : Step) (one : Told) → length told ≡ length steps → lane_deeds (steps ++ step ∷ []) (told ++ one ∷ []) ≡ lane_deeds steps told ++ with_deed step one []
 lane_deeds_more [] [] step one size = refl
 lane_deeds_more [] (answer ∷ told) step one size = absurd (omega (arith, size))
@@ -84,7 +84,7 @@ nothing : {X : Type 0} (xs : List X) → length xs ≡ 0 → xs ≡ []
 nothing [] none = refl
 nothing (x ∷ xs) none = absurd (omega (arith, none))
 
--- The deeds of a part stand behind those of the parts before it.
+-- The deeds of a part come after those of the parts before it.
 pub deeds_more : (parts : List (PartOf Step)) (own : List Told) (lanes : List (List Told)) (part : PartOf Step) (mine : List Told) (others : List (List Told)) → length own ≡ length (own_steps parts) → length lanes ≡ widths parts
     → deeds_in (parts ++ part ∷ []) (own ++ mine) (lanes ++ others) ≡ deeds_in parts own lanes ++ deeds_in (part ∷ []) mine others
 deeds_more [] own lanes part mine others size wide = λ i. deeds_in (part ∷ []) (nothing own size i ++ mine) (nothing lanes wide i ++ others)

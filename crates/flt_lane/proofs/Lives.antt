@@ -102,8 +102,8 @@ module _ {B : Type 0} {b : Ghosts B} (c : Config) (main after : Seat) (jobs jobs
       queue = part_one queue.IsQueueCallFor queued.reply_after StepQueues queued_by jobs jobs_after step one.made.answer is_queue one.made.queue;
     };
     carries = λ earlier. subst (λ l. Carries c main after jobs jobs_after earlier l store now) (sym (newest_of_one step one.made.answer [] earlier)) (one.carries earlier);
-    goes_on = one.goes_on;
-    given = subst (λ l. WereGiven l (driver_of store).device.bench.arms (driver_of now).device.bench.arms) (sym (append-nil (arms_of (action_of step)))) one.given;
+    keeps_driver = one.keeps_driver;
+    arms_made = subst (λ l. WereGiven l (driver_of store).device.bench.arms (driver_of now).device.bench.arms) (sym (append-nil (arms_of (action_of step)))) one.arms_made;
     armed = one.armed;
   }
 
@@ -121,14 +121,14 @@ module _ {B : Type 0} {b : Ghosts B} (c : Config) (main after : Seat) (jobs jobs
           queue = part_block queue.IsQueueCallFor queued.reply_after StepQueues queued_by jobs jobs_after lanes ran.run.others ran.run.queue;
         };
         carries = λ earlier. subst (λ l. Carries c main after jobs jobs_after earlier (reverse l ++ earlier) store now) (sym (deeds_of_block lanes ran.run.others size)) (ran.carries earlier);
-        goes_on = ran.leaves.goes_on;
-        given = ran.leaves.given;
+        keeps_driver = ran.leaves.keeps_driver;
+        arms_made = ran.leaves.arms_made;
         armed = let armed = ran.leaves.armed in omega (arith, armed);
       }
 
 -- ---- room
 
--- There is room for the later parts behind the first one.
+-- There is room for the later parts after the first one.
 pub room_behind : (answers kept : LifeAnswers) (part : PartOf Step) (rest : List (PartOf Step)) → HasRoomForParts answers (part ∷ rest) → vec_len kept.own.answers ≤ vec_len answers.own.answers + 1 → HasRoomForSteps kept.own (own_steps rest)
     → vec_len kept.told ≡ vec_len answers.told + width part → vec_capacity kept.told ≡ vec_capacity answers.told → HasRoomForParts kept rest
 room_behind answers kept part rest room own_len own_room told_len told_capacity = record {
@@ -151,7 +151,7 @@ module _ {F : _} {g : _} {B : Type 0} {b : Ghosts B} (locks : Locks F g) (c : Co
   pub queued_for : queued_in part ≤ seats.queue.left
   queued_for = let sum = sum_by-cons queued_in part rest in omega (arith, sum, can.calls.queue)
 
-  -- What the later ones need, behind it.
+  -- What the later ones need, after it.
   pub can_behind : (after : Seats) (now : Store B b) (left : List BlockRoom) (kept : LifeAnswers)
       → GainsPart c seats.dem after.dem seats.queue after.queue part (told_in answers.own) (told_in kept.own) (map told_in answers.told.items) (map told_in kept.told.items) store now
       → IsSeatOf locks.dem after.dem → turn.IsSeatOf locks.queue.turn after.queue → seats.dem.left ≤ after.dem.left + calls_in part → seats.queue.left ≤ after.queue.left + queued_in part
@@ -211,8 +211,8 @@ module _ {B : Type 0} {b : Ghosts B} (c : Config) (seats : Seats) (store : Store
         };
         told_len = none_told.1;
         carries = carries_beside c seats.dem seats.dem seats.queue seats.queue [] store (λ known is. is) (λ known is. is);
-        goes_on = goes_nowhere (driver_of store);
-        given = none_given (driver_of store).device.bench.arms;
+        keeps_driver = goes_nowhere (driver_of store);
+        arms_made = none_given (driver_of store).device.bench.arms;
         armed = omega arith;
       }
 
@@ -243,8 +243,8 @@ module _ {B : Type 0} {b : Ghosts B} (c : Config) (seats : Seats) (store : Store
         told_len = omega (arith, told_len, so_far.told_len, wide);
         carries = subst (λ (l : List Deed). Carries c seats.dem after.dem seats.queue after.queue [] l store next) (sym deeds)
             (carries_further c seats.dem now.dem after.dem seats.queue now.queue after.queue [] before (gained ++ before) store then next ran.dem.lived.start_is so_far.carries (gains.carries before));
-        goes_on = goes_further (driver_of store) (driver_of then) (driver_of next) so_far.goes_on gains.goes_on;
-        given = subst (λ (l : List Arm). WereGiven l (driver_of store).device.bench.arms (driver_of next).device.bench.arms) (sym (arms_more_parts parts part))
-            (given_further _ _ (driver_of store).device.bench.arms (driver_of then).device.bench.arms (driver_of next).device.bench.arms so_far.given gains.given);
+        keeps_driver = goes_further (driver_of store) (driver_of then) (driver_of next) so_far.keeps_driver gains.keeps_driver;
+        arms_made = subst (λ (l : List Arm). WereGiven l (driver_of store).device.bench.arms (driver_of next).device.bench.arms) (sym (arms_more_parts parts part))
+            (given_further _ _ (driver_of store).device.bench.arms (driver_of then).device.bench.arms (driver_of next).device.bench.arms so_far.arms_made gains.arms_made);
         armed = omega (arith, arm_sum, so_far.armed, gains.armed);
       }

@@ -60,7 +60,7 @@ map_reverse f (x ∷ xs) = reverse-append (f x ∷ []) (map f xs) ∙ ap (λ l. 
     map-push f [] x = refl
     map-push f (y ∷ xs) x = ap (λ l. f y ∷ l) (map-push f xs x)
 
--- The calls behind what was known, the newest first.
+-- The calls after what was known, the newest first.
 pub calls_since : (known : Journal) (before after : Seat) (op : Op) (place : ℕ) (at : Since known before after op place) → past place after.seen ≡ calls_of (reverse (known ++ at.more))
 calls_since known before after op place at = ap reverse at.ops_are ∙ map_reverse (λ (e : Entry Op). e.op) (known ++ at.more)
 

@@ -77,7 +77,7 @@ module _ {F : _} {g : _} (locks : Locks F g) (before : Seats) (room : LaneRoom) 
         queue = splits_with before.queue after.queue work.seats.queue (queued_of room.steps.now) (queued_of work.steps.now) queued queued_for queue_off queue;
       }
 
-  -- The later lanes may have their seats behind it.
+  -- The later lanes may have their seats after it.
   pub seats_on : (after : Seats) (work : LaneWork) → IsSeated locks before room after work → CanSeat locks after later
   seats_on after work is =
       let start = ap (λ (s : Seat). s.start.config) is.dem.after_is in
@@ -91,7 +91,7 @@ module _ {F : _} {g : _} (locks : Locks F g) (before : Seats) (room : LaneRoom) 
       }
 
 module _ {F : _} {g : _} (locks : Locks F g) where
-  -- The later lanes may give theirs back behind it.
+  -- The later lanes may give theirs back after it.
   pub joins_later : (before : Seats) (work : LaneWork) (later : List LaneWork) (after : Seats) (replies : LaneReplies) → IsJoined before work after replies → CanJoin locks before (work ∷ later) → CanJoin locks after later
   joins_later before work later after replies is can = record {
     dem = joins_on locks.dem.turn before.dem after.dem work.seats.dem is.dem can.dem;

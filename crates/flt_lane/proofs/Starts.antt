@@ -1,4 +1,4 @@
--- What was known of the configuration behind a seat stays known as long as its start stays.
+-- What was known of the configuration under a seat stays known as long as its start stays.
 use Rattle.std.proofs.Common.{◌≡◌, ap, subst, sym, ◌∙◌}
 use Rattle.flt_config.specs.declared.config.Config.{Config}
 use Rattle.flt_config.specs.Durable.{Fits}

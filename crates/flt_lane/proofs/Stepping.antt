@@ -123,7 +123,7 @@ module _ {B : Type 0} {b : Ghosts B} (c : Config) where
       failed_is = drained.failed_is;
     };
     chain = drained.chain;
-    left = let left = drained.left in omega (arith, left);
+    left = let left = drained.calls_used in omega (arith, left);
   }
 
   -- It found no more.
@@ -144,5 +144,5 @@ module _ {B : Type 0} {b : Ghosts B} (c : Config) where
           failed_is = drained.failed_is;
         };
         chain = chain_more queue.IsQueueCallFor queued.reply_after before (calls_for_all drained.jobs) mid (last ∷ []) after drained.chain none.chain;
-        left = let left = drained.left in let one = fact.left_is in omega (arith, left, one, few);
+        left = let left = drained.calls_used in let one = fact.left_is in omega (arith, left, one, few);
       }

@@ -36,8 +36,8 @@ module _ {B : Type 0} {b : Ghosts B} where
       → WereGiven (arms_of (action_of step)) (driver_of store).device.bench.arms (driver_of now).device.bench.arms
       → (driver_of now).device.bench.armed ≤ (driver_of store).device.bench.armed + arm_count (action_of step) → LeavesStore store now
   leaves_step step store now is goes given armed = record {
-    goes_on = goes;
-    given = subst (λ (l : List Arm). WereGiven l (driver_of store).device.bench.arms (driver_of now).device.bench.arms) (no_arms step is) given;
+    keeps_driver = goes;
+    arms_made = subst (λ (l : List Arm). WereGiven l (driver_of store).device.bench.arms (driver_of now).device.bench.arms) (no_arms step is) given;
     armed = let none = no_arm step is in omega (arith, armed, none);
   }
 

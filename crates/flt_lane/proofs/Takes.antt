@@ -23,7 +23,7 @@ use Rattle.flt_life_model.proofs.Causing.{caused_job, caused_same}
 use Rattle.flt_lane.proofs.Drains.{holds_noted, holds_taken}
 use Rattle.flt_lane.proofs.Leaving.{leaves_by_calls, leaves_nothing}
 
--- What a take that handed out no job was told.
+-- What a take that handed out no job was answered.
 no_job : (next : Option Job) (reply : QueueReply) → reply ≡ handed_out next → ((job : Job) → reply ≡ replies.Job job → ⊥) → reply ≡ replies.NoJob
 no_job None reply is other = is
 no_job (Some job) reply is other = absurd (other job is)
@@ -64,7 +64,7 @@ module _ {B : Type 0} {b : Ghosts B} (c : Config) (before mid after : QueueSeat)
           running = put.running;
           holds = λ first earlier jobs deeds holds.
               holds_noted first before mid after taken noted job written take is_job done earlier jobs deeds (driver_of store).value (driver_of now).value wrote holds;
-          caused = λ begun told some more less caused. caused_job c store now begun told some more less (one_if (not written)) put.follows put.rose put.running caused;
-          leaves = leaves_by_calls store now put.follows;
+          caused = λ begun told some more less caused. caused_job c store now begun told some more less (one_if (not written)) put.keeps_driver put.rose put.running caused;
+          leaves = leaves_by_calls store now put.keeps_driver;
         };
       }

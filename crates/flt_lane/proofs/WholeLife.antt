@@ -24,7 +24,7 @@ module _ {S O R : Type 0} (answer : S → List O → O → R) (MadeBy : Step →
       record {
         blocks = ran.blocks;
         made = subst (λ n. PartsMake MadeBy n parts own lanes ran.blocks) first ran.made;
-        follows = subst (HasInOrder ran.blocks) (sym journal_is) trail.follows;
+        in_order = subst (HasInOrder ran.blocks) (sym journal_is) trail.in_order;
         told = trail.told;
         rising = λ number. rise_lower (length trail.before) 0 (calls_in_lane number ran.blocks) (omega arith) (trail.rising number);
       }

@@ -31,14 +31,14 @@ module _ {S O R : Type 0} (answer : S → List O → O → R) (MadeBy : Step →
 
 -- ---- on both locks
 
--- The lanes of a block were run, and their answers were put behind those of the lanes before.
+-- The lanes of a block were run, and their answers were put after those of the lanes before.
 pub record RunsLanes (main after : Seat) (jobs jobs_after : QueueSeat) (lanes : List (List Step)) (told told_after : List (List Told)) : Type 0 where
   pub others : List (List Told)
   pub told_are : told_after ≡ told ++ others
   pub dem : HasRunBlock reply_after StepMakes main after lanes others
   pub queue : HasRunBlock queued.reply_after StepQueues jobs jobs_after lanes others
 
--- A part was carried out, and its answers were put behind those of lane 0 and of the lanes before.
+-- A part was carried out, and its answers were put after those of lane 0 and of the lanes before.
 pub record Gains (main after : Seat) (jobs jobs_after : QueueSeat) (part : PartOf Step) (mine : List Told) (others : List (List Told))
     (own own_after : List Told) (lanes lanes_after : List (List Told)) : Type 0 where
   pub own_are : own_after ≡ own ++ mine

@@ -32,6 +32,6 @@ module _ {B : Type 0} {b : Ghosts B} where
     pub others : List (List Told)
     pub gains : Gains main after jobs jobs_after part mine others own own_after lanes lanes_after
     pub carries : (earlier : List Deed) → Carries c main after jobs jobs_after earlier (reverse (deeds_in (part ∷ []) mine others) ++ earlier) store now
-    pub goes_on : GoesOn (driver_of store) (driver_of now)
-    pub given : WereGiven (all_arms (own_actions (part ∷ []))) (driver_of store).device.bench.arms (driver_of now).device.bench.arms
+    pub keeps_driver : GoesOn (driver_of store) (driver_of now)
+    pub arms_made : WereGiven (all_arms (own_actions (part ∷ []))) (driver_of store).device.bench.arms (driver_of now).device.bench.arms
     pub armed : (driver_of now).device.bench.armed ≤ (driver_of store).device.bench.armed + arms_in part

@@ -25,7 +25,7 @@ abbrev pub MakesJobs : QueueSeat → List QueueCall → QueueSeat → Type 0
 MakesJobs before calls after = Chain queue.IsQueueCallFor queued.reply_after before calls after
 
 module _ {B : Type 0} {b : Ghosts B} where
-  -- What so many calls of a drain, with so many jobs, of which some failed, carry on of the store.
+  -- What this many calls of a drain, with this many jobs, of which some failed, carry on of the store.
   pub record DrainsOn (c : Config) (before after : QueueSeat) (calls jobs failed : ℕ) (store now : Store B b) : Type 0 where
     pub running : (held spare : Generation) → IsRunning c held spare store → IsRunning c held spare now
     pub holds : (first : ℕ → Content) (earlier done : ℕ) (deeds : List Deed) → HoldsBy first before earlier done deeds (driver_of store).value
@@ -52,7 +52,7 @@ module _ {B : Type 0} {b : Ghosts B} where
   LooksForJob c before after None store now = FindsNone c before after store now
   LooksForJob c before after (Some written) store now = TakesJob c before after written store now
 
-  -- So many jobs were taken.
+  -- This many jobs were taken.
   pub record HasDrained (c : Config) (before after : QueueSeat) (written failed count : ℕ) (store now : Store B b) : Type 0 where
     pub jobs : List Drained
     pub count_is : length jobs ≡ count
@@ -61,6 +61,6 @@ module _ {B : Type 0} {b : Ghosts B} where
     pub all : written + failed ≡ count
     pub chain : MakesJobs before (calls_for_all jobs) after
     pub drains : DrainsOn c before after (2 * count) count failed store now
-    pub left : before.left ≤ after.left + 2 * count
+    pub calls_used : before.left ≤ after.left + 2 * count
     pub start : after.start ≡ before.start
     pub lock : after.lock ≡ before.lock

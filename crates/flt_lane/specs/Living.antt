@@ -70,7 +70,7 @@ drains_of (deed ∷ earlier) = drains_by deed.1 + drains_of earlier
 
 -- ---- the store
 
--- By a beginning of the queue's journal that the seat knows, which has so many calls of drains, where no other drain was at work.
+-- By a beginning of the queue's journal that the seat knows, which has this many calls of drains, where no other drain was at work.
 pub record HoldsBy (first : ℕ → Content) (seat : QueueSeat) (calls jobs : ℕ) (deeds : List Deed) (values : ℕ → Content) : Type 0 where
   pub known : List (Entry QueueOp)
   pub is_known : IsKnownTo seat known

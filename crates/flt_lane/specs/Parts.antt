@@ -50,13 +50,13 @@ module _ {B : Type 0} {b : Ghosts B} where
     pub rooms_are : AreRoomsOf parts rooms
     pub room : HasRoomForParts answers parts
 
-  -- A part was carried out, and its answers were put behind those that were there.
+  -- A part was carried out, and its answers were put after those that were there.
   pub record RunsPart (c : Config) (seats after : Seats) (part : PartOf Step) (answers told : LifeAnswers) (store now : Store B b) : Type 0 where
     pub gains : GainsPart c seats.dem after.dem seats.queue after.queue part (told_in answers.own) (told_in told.own) (map told_in answers.told.items)
         (map told_in told.told.items) store now
     pub told_len : vec_len told.told ≡ vec_len answers.told + width part
 
-  -- Whatever parts come behind this one: where all could be carried out, what it left can carry out those.
+  -- Whatever parts come after this one: where all could be carried out, what it left can carry out those.
   abbrev pub CanRunBehind : {F : _} {g : _} → Locks F g → Config → (part : PartOf Step) → (seats after : Seats) → (store now : Store B b)
       → (rooms later : List BlockRoom) → (answers told : LifeAnswers) → Type 0
   CanRunBehind locks c part seats after store now rooms later answers told = (rest : List (PartOf Step))
@@ -67,6 +67,6 @@ module _ {B : Type 0} {b : Ghosts B} where
     pub ran : HaveRunParts seats.dem after.dem seats.queue after.queue parts (told_in answers.own) (map told_in answers.told.items)
     pub told_len : vec_len answers.told ≡ widths parts
     pub carries : Carries c seats.dem after.dem seats.queue after.queue [] (reverse (deeds_in parts (told_in answers.own) (map told_in answers.told.items))) store now
-    pub goes_on : GoesOn (driver_of store) (driver_of now)
-    pub given : WereGiven (all_arms (own_actions parts)) (driver_of store).device.bench.arms (driver_of now).device.bench.arms
+    pub keeps_driver : GoesOn (driver_of store) (driver_of now)
+    pub arms_made : WereGiven (all_arms (own_actions parts)) (driver_of store).device.bench.arms (driver_of now).device.bench.arms
     pub armed : (driver_of now).device.bench.armed ≤ (driver_of store).device.bench.armed + sum_by arms_in parts

@@ -56,7 +56,7 @@ pub record IsJoined (before : Seats) (work : LaneWork) (after : Seats) (replies 
   pub dem : after.dem ≡ joined_seat before.dem work.seats.dem
   pub queue : after.queue ≡ joined_seat before.queue work.seats.queue
 
--- All lanes of a block gave theirs back, and their answers came behind those that were there.
+-- All lanes of a block gave theirs back, and their answers came after those that were there.
 pub record HaveJoined (off after : Seats) (works : List LaneWork) (told told_after : List (List Told)) : Type 0 where
   pub told_are : told_after ≡ told ++ map (λ (w : LaneWork). told_in w.replies) works
   pub dem : AreJoined off.dem after.dem (map (λ (w : LaneWork). w.seats.dem) works)

@@ -19,7 +19,7 @@ use Rattle.flt_lane.specs.declared.locks.Seats.{Seats}
 use Rattle.flt_lane.specs.Living.{Carries}
 use Rattle.flt_lane.specs.Runs.{Makes, Queues, QueueSeat}
 
--- It is a call of what stands under a lock: it needs nothing of the store or of the bench.
+-- It is a call of what is under a lock: it needs nothing of the store or of the bench.
 abbrev pub IsLockCall : Action → Type 0
 IsLockCall (Call op) = Unit {0}
 IsLockCall (Queue op) = Unit {0}
@@ -35,7 +35,7 @@ pub record HasRoomForAnswer (replies : LaneReplies) (action : Action) : Type 0 w
   pub answers : vec_len replies.answers + 1 ≤ vec_capacity replies.answers
   pub responses : vec_len replies.responses + response_size action ≤ byte_room replies.responses
 
--- The answer was put behind those before it, and there is room for those to the later steps.
+-- The answer was put after those before it, and there is room for those to the later steps.
 pub record KeepsAnswer (before after : LaneReplies) (step : Step) (answer : Told) : Type 0 where
   pub told : told_in after ≡ told_in before ++ answer ∷ []
   pub len : vec_len after.answers ≡ vec_len before.answers + 1
@@ -54,6 +54,6 @@ module _ {B : Type 0} {b : Ghosts B} where
       (store now : Store B b) : Type 0 where
     pub made : MakesStep seat after jobs jobs_after step replies kept
     pub carries : (earlier : List Deed) → Carries c seat after jobs jobs_after earlier (with_deed step made.answer earlier) store now
-    pub goes_on : GoesOn (driver_of store) (driver_of now)
-    pub given : WereGiven (arms_of (action_of step)) (driver_of store).device.bench.arms (driver_of now).device.bench.arms
+    pub keeps_driver : GoesOn (driver_of store) (driver_of now)
+    pub arms_made : WereGiven (arms_of (action_of step)) (driver_of store).device.bench.arms (driver_of now).device.bench.arms
     pub armed : (driver_of now).device.bench.armed ≤ (driver_of store).device.bench.armed + arm_count (action_of step)

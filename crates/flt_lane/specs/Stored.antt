@@ -35,8 +35,8 @@ module _ {B : Type 0} {b : Ghosts B} where
 
   -- What steps leave of the store and its bench that make no arm.
   pub record LeavesStore (store now : Store B b) : Type 0 where
-    pub goes_on : GoesOn (driver_of store) (driver_of now)
-    pub given : WereGiven [] (driver_of store).device.bench.arms (driver_of now).device.bench.arms
+    pub keeps_driver : GoesOn (driver_of store) (driver_of now)
+    pub arms_made : WereGiven [] (driver_of store).device.bench.arms (driver_of now).device.bench.arms
     pub armed : (driver_of now).device.bench.armed ≤ (driver_of store).device.bench.armed
 
   -- A lane made its steps over the store.

@@ -26,7 +26,7 @@ pub record AreOfLocks {F : _} {g : _} (locks : Locks F g) (seats : Seats) : Type
 abbrev pub AreSeatsOf : {F : _} {g : _} → Locks F g → LaneWork → Type 0
 AreSeatsOf locks work = AreOfLocks locks work.seats
 
--- The status machine behind a seat started from a state that fits this configuration, which is its own and is valid.
+-- The status machine under a seat started from a state that fits this configuration, which is its own and is valid.
 pub record HasConfig (config : Config) (seat : Seat) : Type 0 where
   pub same : seat.start.config ≡ config
   pub valid : IsValid config

@@ -96,7 +96,7 @@ fn seat_lanes<'a>(locks: &Locks, main: &mut Seats, room: BlockRoom<'a>) -> Vec<L
     works
 }
 
-/// Joins the seats of lanes, and puts their answers behind those that are there.
+/// Joins the seats of lanes, and puts their answers after those that are there.
 fn join_lanes(
     locks: &Locks,
     main: &mut Seats,
@@ -132,7 +132,7 @@ fn run_works<R: Threads + Wait + Sync, G: SharedGate, B: Blocks + Drop>(
     gate.run_lanes(rt, locks, store, config, works.as_mut_slice());
 }
 
-/// Runs the lanes of a block, and puts their answers behind those that are there. No memory is taken: there is room for the seats
+/// Runs the lanes of a block, and puts their answers after those that are there. No memory is taken: there is room for the seats
 /// in `room`, and in `answers` for the answers.
 pub(crate) fn run_lanes<'a, R: Threads + Wait + Sync, G: SharedGate, B: Blocks + Drop>(
     common: &Common<'_, R, G>,

@@ -57,7 +57,7 @@ impl<G: Gate> Work<Locks, G> for LaneWork<'_> {
     }
 }
 
-/// Makes the steps of the lane that touches the store, likewise.
+/// Makes the steps of the lane that touches the store, in the same way.
 fn run_store_lane<R: Wait, G: Gate, B: Blocks + Drop>(
     rt: &R,
     locks: &Locks,

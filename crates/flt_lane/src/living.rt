@@ -34,7 +34,7 @@ pub struct LifeAnswers {
     pub response: ArrayVec<u8, RESPONSE>,
 }
 
-/// Carries out a part of a life, and puts its answers behind those that are there. A step of lane 0 is made between the two calls of
+/// Carries out a part of a life, and puts its answers after those that are there. A step of lane 0 is made between the two calls of
 /// the gate. The room of a block is the next one.
 fn run_part<'a, R: Threads + Wait + Sync, G: SharedGate, B: Blocks + Drop>(
     common: &Common<'_, R, G>,

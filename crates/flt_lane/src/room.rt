@@ -19,7 +19,7 @@ pub struct BlockRoom<'a> {
     pub works: Vec<LaneWork<'a>>,
 }
 
-/// Takes the next lanes, so many.
+/// Takes the next lanes, this many.
 pub fn next_lanes<'a>(
     alloc: Global,
     count: usize,

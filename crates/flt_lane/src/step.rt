@@ -102,7 +102,6 @@ fn save<R: Wait, B: Blocks + Drop>(
 
 /// Reads an application block, and keeps what it holds.
 fn get<B: Blocks + Drop>(store: &mut Store<B>, block: u8, replies: &mut LaneReplies)
-    requires block { block < 40 }
     requires alive { (c : Config) × (block < c.blocks) × IsAlive c store.old }
     requires room { HasRoomForAnswer replies.old (action.Get block) }
     ensures takes { (c : Config) (seat : DemView) (jobs : Jobs)

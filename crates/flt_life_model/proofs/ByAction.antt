@@ -1,4 +1,4 @@
--- What is known of a step by what it does. The kinds of steps are told apart here alone.
+-- What is known of a step by what it does. The kinds of steps are distinguished here alone.
 use Rattle.std.proofs.Common.{◌≡◌, ℕ, Bool, true, false, [], Option, Some, None, refl, subst, sym, ◌∙◌}
 use Rattle.std.specs.Prelude.{IfSome, IsTrue}
 use Rattle.std.proofs.lemmas.Bool.{false≢true}
@@ -70,7 +70,7 @@ touches_by (steps.Get block) = refl
 touches_by (steps.Ask block) = refl
 touches_by (steps.Arming arm) = refl
 
--- ---- whether it may stand in a lane: it is no arm
+-- ---- whether it may be in a lane: it is no arm
 
 abbrev pub may_stand : Action → Bool
 may_stand (action.Arm arm) = false

@@ -49,7 +49,7 @@ module _ (count : Step → ℕ) (most : (step : Step) → count step ≤ 64) whe
       let one = lane_most lane in
       omega (arith, rest, sum, steps, one)
 
-  -- Those of the next step fit behind those of the steps before it.
+  -- Those of the next step fit after those of the steps before it.
   pub step_fits : (steps : List Step) (index : ℕ) (step : Step) → index < length steps → length steps ≤ 65536 → sum_by count (take index steps) + count step < 2 ^ 32
   step_fits steps index step within few =
       let so_far = lane_most (take index steps) in
@@ -68,7 +68,7 @@ module _ {A : Type 0} (lanes : List (Vec Step A)) (index : ℕ) (lane : Vec Step
       let most = sum_by-take-le length (map (λ (l : Vec Step A). l.items) lanes) (index + 1) in
       omega (arith, sum, same, most)
 
-  -- Those of the next lane fit behind those of the lanes before it.
+  -- Those of the next lane fit after those of the lanes before it.
   pub lane_fits : (count : Step → ℕ) → ((step : Step) → count step ≤ 64) → sum_by length (map (λ (l : Vec Step A). l.items) lanes) ≤ 65536
       → sum_by (λ steps. sum_by count steps) (map (λ (l : Vec Step A). l.items) (take index lanes)) + sum_by count lane.items < 2 ^ 32
   lane_fits count most few =
@@ -97,7 +97,7 @@ module _ (count : PartOf Step → ℕ) (most : (part : PartOf Step) → count pa
       let one = most part in
       omega (arith, rest, steps, sum, one)
 
-  -- Those of the next part fit behind those of the parts before it.
+  -- Those of the next part fit after those of the parts before it.
   pub part_fits : (parts : List Part) (index : ℕ) (part : Part) → index < length parts → part ≡ get_or parts index part → sum_by steps_in (parts_of parts) ≤ 65536
       → sum_by count (parts_of (take index parts)) + count (part_of part) < 2 ^ 32
   part_fits parts index part within is few =

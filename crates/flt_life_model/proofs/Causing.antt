@@ -119,7 +119,7 @@ module _ {B : Type 0} {b : Ghosts B} (c : Config) (begun : ℕ) (told : List Tol
         sequence = λ was. subst IsTrue (sym spent) (caused.sequence was);
       }
 
-  -- Calls of the driver by which no more is told to have failed leave the causes as they are.
+  -- Calls of the driver by which no more is known to have failed leave the causes as they are.
   caused_still : (now : List Told) → Follows (driver_of before) (driver_of after) → IsRunning c caused.held_now caused.spare_now after → flash_failures now ≡ flash_failures told
       → (IsFalse (driver_of after).is_spent → HasRisenBy (3 * (flash_failures now + jobs_failed now)) begun (driver_of after).device.faults)
       → (HasFailedBy Spent now → HasFailedBy Spent told) → (HasFailedBy SequenceSpent now → HasFailedBy SequenceSpent told) → IsCaused c begun now after
@@ -227,6 +227,6 @@ are_caused c begun told store boot rose caused =
       jobs = λ unspent. (let jobs = caused.jobs unspent in omega (arith, jobs, rose));
       spent = λ was.
           (let last = caused.spent was in
-          (caused.held_now, (held_stands c caused.running.served.given (driver_of store).value caused.held_now).1 sound.holds, omega (arith, last, order, small)));
+          (caused.held_now, (held_stands c caused.running.served.valid_config (driver_of store).value caused.held_now).1 sound.holds, omega (arith, last, order, small)));
       sequence = caused.sequence;
     }

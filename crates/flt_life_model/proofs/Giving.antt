@@ -15,7 +15,7 @@ use Rattle.flt_life_model.specs.Going.{IsMadeIn, ArmsSince, WereAdded, WereGiven
 -- None.
 pub none_added : {A : Type 0} (of : ArmMade → A) (arms : Option (List ArmMade)) → WereAdded of [] arms arms
 none_added of None = tt
-none_added of (Some made) = record { more = []; is = sym (append-nil made); given = refl }
+none_added of (Some made) = record { more = []; is = sym (append-nil made); arms_are = refl }
 
 pub none_given : (arms : Option (List ArmMade)) → WereGiven [] arms arms
 none_given arms = none_added (λ a. a.arm) arms
@@ -33,7 +33,7 @@ added_further of one two None (Some middle) (Some made) before after = absurd be
 added_further of one two (Some earlier) (Some middle) (Some made) before after = record {
   more = before.more ++ after.more;
   is = after.is ∙ ap (λ front. front ++ after.more) before.is ∙ append_assoc earlier before.more after.more;
-  given = map-append of before.more after.more ∙ (λ i. before.given i ++ after.given i);
+  arms_are = map-append of before.more after.more ∙ (λ i. before.arms_are i ++ after.arms_are i);
 }
 
 pub given_further : (one two : List Arm) (first second third : Option (List ArmMade)) → WereGiven one first second → WereGiven two second third → WereGiven (one ++ two) first third
@@ -66,7 +66,7 @@ given_in boots count arms (Some earlier) (Some made) since given =
     record {
       more = given.more;
       is = given.is;
-      given = each_in boots count given.more (subst (All (IsMadeIn boots count)) (sym same) since.each) ∙ ap (arms_in_life boots) given.given;
+      arms_are = each_in boots count given.more (subst (All (IsMadeIn boots count)) (sym same) since.each) ∙ ap (arms_in_life boots) given.arms_are;
     }
 
 -- Those of one life more.
@@ -84,4 +84,4 @@ all_given arms None None given = tt
 all_given arms None (Some made) given = absurd given
 all_given arms (Some earlier) None given = tt
 all_given arms (Some earlier) (Some made) given =
-    ap (map (λ (a : ArmMade). (a.boots, a.arm))) (ap (drop (length earlier)) given.is ∙ drop-append_seam earlier given.more) ∙ given.given
+    ap (map (λ (a : ArmMade). (a.boots, a.arm))) (ap (drop (length earlier)) given.is ∙ drop-append_seam earlier given.more) ∙ given.arms_are

@@ -40,14 +40,14 @@ count_beside op past is = rw is refl
 -- ---- what a block may hold
 
 module _ (block : ℕ) (first held : Content) where
-  -- Behind a call of a step.
+  -- After a call of a step.
   pub may_beside : (op : QueueOp) (past : History) → IsQueueCall op → MayHold block first past held → MayHold block first (op ∷ past) held
   may_beside (ops.Post urgent job) past is may = may
   may_beside ops.Take past is may = absurd is
   may_beside (ops.Done done written) past is may = absurd is
   may_beside (ops.Ask asked) past is may = may
 
-  -- Behind all calls, where it may behind those up to the last result.
+  -- After all calls, where it may after those up to the last result.
   pub may_whole : (past : History) (jobs : ℕ) → jobs ≡ done_count past → MayHold block first (up_to_done jobs past) held → MayHold block first past held
   may_whole [] jobs is may = may
   may_whole (ops.Post urgent job ∷ past) jobs is may = may_whole past jobs is (subst (λ l. MayHold block first l held) (up_to_fewer jobs (ops.Post urgent job) past (omega (arith, is))) may)
@@ -59,14 +59,14 @@ module _ (block : ℕ) (first held : Content) where
   choose_of true P Q first second = first refl
   choose_of false P Q first second = second
 
-  -- Behind a result: where it is that the job was written, the block holds its bytes.
+  -- After a result: where it is that the job was written, the block holds its bytes.
   pub may_done : (past : History) (done : ℕ) (written : Bool) → (written ≡ true → done ≡ block → IsBytesOf (last_taken block past) held) → MayHold block first past held
       → MayHold block first (ops.Done done written ∷ past) held
   may_done past done written by_job may =
       choose_of (written && (done == block)) (IsBytesOf (last_taken block past) held) (MayHold block first past held)
       (λ both. (let parts = and_parts written (done == block) both in by_job parts.0 (eqb-true done block parts.1))) may
 
--- The job that was taken last, behind a call of a step.
+-- The job that was taken last, after a call of a step.
 last_beside : (block : ℕ) (op : QueueOp) (past : History) → IsQueueCall op → last_taken block (op ∷ past) ≡ last_taken block past
 last_beside block (ops.Post urgent job) past is = refl
 last_beside block ops.Take past is = absurd is
@@ -76,7 +76,7 @@ last_beside block (ops.Ask asked) past is = refl
 -- ---- what reads were answered
 
 module _ (first : ℕ → Content) where
-  -- Behind one call more.
+  -- After one call more.
   gets_more : (op : QueueOp) (past : History) (earlier : List Deed) (does : Action) (told : Told) → jobs_told (answers_of earlier) ≤ done_count past → GetsBy first past earlier does told → GetsBy first (op ∷ past) earlier does told
   gets_more op past earlier does told few = gets_also first first past (op ∷ past) earlier does told
       (λ block found is. subst (λ l. MayHold block (first (application_number block)) l found) (sym (up_to_fewer (jobs_told (answers_of earlier)) op past few)))
@@ -103,13 +103,13 @@ module _ (first : ℕ → Content) where
 -- ---- all of it
 
 module _ (first : ℕ → Content) (jobs : ℕ) (deeds : List Deed) (values : ℕ → Content) where
-  -- Behind a call that is no result.
+  -- After a call that is no result.
   pub held_beside : (op : QueueOp) (past : History) → is_done op ≡ false → AreHeld first past jobs deeds values → AreHeld first (op ∷ past) jobs deeds values
   held_beside op past is held =
-      let done = held.done in
+      let done = held.counts_jobs in
       let few : jobs ≤ done_count past = omega (arith, done) in
       record {
-        done = done ∙ sym (count_beside op past is);
+        counts_jobs = done ∙ sym (count_beside op past is);
         held = subst (λ l. HoldApplications first l values) (sym (up_to_fewer jobs op past few)) held.held;
         got = (let told = held.told in got_more first op past deeds (omega (arith, told, few)) held.got);
         told = held.told;
@@ -125,14 +125,14 @@ module _ (first : ℕ → Content) (earlier : List Deed) (deed : Deed) (values n
       let jobs = jobs_told (answers_of earlier) in
       let told = held.told in
       record {
-        done = no_job ∙ held.done;
+        counts_jobs = no_job ∙ held.counts_jobs;
         held = subst (λ n. HoldApplications first (up_to_done n past) now) (sym no_job)
             (λ block below. subst (MayHold block (first (application_number block)) (up_to_done jobs past)) (sym (same block below)) (held.held block below));
         got = (gets held, held.got);
         told = omega arith;
       }
 
--- What a read of an application block tells of it.
+-- What a read of an application block says of it.
 pub gets_bytes : (content : Content) (found : Bool) (out : List ℕ) → Gets content found out → found ≡ true → content ≡ holding out
 gets_bytes missing found out gets is = absurd (false≢true (sym gets.0 ∙ is))
 gets_bytes invalid found out gets is = absurd gets
@@ -182,7 +182,7 @@ module _ (first : ℕ → Content) (jobs : ℕ) (deeds : List Deed) (before afte
     (held : AreHeld first past jobs deeds before) where
   -- What each block may hold before the result is noted.
   may_now : (block : ℕ) → block < applications → MayHold block (first (application_number block)) past (before (application_number block))
-  may_now block below = may_whole block (first (application_number block)) (before (application_number block)) past jobs held.done (held.held block below)
+  may_now block below = may_whole block (first (application_number block)) (before (application_number block)) past jobs held.counts_jobs (held.held block below)
 
   may_own : MayHold job.block (first (application_number job.block)) past (before (application_number job.block)) → MayHold job.block (first (application_number job.block)) past (after (application_number job.block))
   may_own may =
@@ -209,10 +209,10 @@ module _ (first : ℕ → Content) (jobs : ℕ) (deeds : List Deed) (before afte
   -- One job more was done.
   pub held_done : AreHeld first (ops.Done job.block written ∷ past) (jobs + 1) deeds after
   held_done =
-      let done = held.done in
+      let done = held.counts_jobs in
       let told = held.told in
       record {
-        done = omega (arith, done);
+        counts_jobs = omega (arith, done);
         held = subst (λ l. HoldApplications first l after) (sym (up_to_last (jobs + 1) job.block written past (omega (arith, done)))) (λ block below. may_after block below (cases block));
         got = got_more first (ops.Done job.block written) past deeds (omega (arith, done, told)) held.got;
         told = omega (arith, told);

@@ -59,7 +59,7 @@ snapshot_call start lane number earlier (ops.Saved other) is = absurd is
 pub pushed : (journal : Journal) (e : Entry Op) → reverse (journal ++ e ∷ []) ≡ e ∷ reverse journal
 pushed journal e = reverse-append journal (e ∷ [])
 
--- The calls of steps behind a journal leave its last snapshot.
+-- The calls of steps after a journal leave its last snapshot.
 pub snapshot_further : (start : Start) (number : ℕ) (journal entries : Journal) → All (λ (e : Entry Op). IsStepCall e.op) entries → snapshot_of start number (reverse (journal ++ entries)) ≡ snapshot_of start number (reverse journal)
 snapshot_further start number journal [] are = ap (λ j. snapshot_of start number (reverse j)) (append-nil journal)
 snapshot_further start number journal (e ∷ entries) are =
@@ -165,7 +165,7 @@ module _ (c : Config) (first : Generation) (journal : Journal) (told : List Told
           rising = kept.rising;
         }
 
-    -- The snapshot of the state was the last one of the lane, also where calls of other lanes stand behind it.
+    -- The snapshot of the state was the last one of the lane, also where calls of other lanes come after it.
     pub kept_saved : (lane number : ℕ) (later : Journal) → number ≡ chosen.number + 1 → snapshot_of (start_from c first.state) lane later ≡ Some (saved_after (start_from c first.state) (calls_of journal))
         → IsKeptSince c first (entry lane (ops.Saved number) ∷ later) (answers.Saved number ∷ told)
         (numbered number (saved_after (start_from c first.state) (calls_of journal))) (numbered number (saved_after (start_from c first.state) (calls_of journal)))
@@ -182,7 +182,7 @@ module _ (c : Config) (first : Generation) (journal : Journal) (told : List Told
           rising = ((omega (arith, least, next, last), omega (arith, most, next, last)), kept.rising);
         }
 
--- Calls of steps behind a journal.
+-- Calls of steps after a journal.
 pub kept_further : (c : Config) (first : Generation) (told : List Told) (h s : Generation) (journal entries : Journal) → All (λ (e : Entry Op). IsStepCall e.op) entries → IsKeptSince c first (reverse journal) told h s
     → IsKeptSince c first (reverse (journal ++ entries)) told h s
 kept_further c first told h s journal [] are kept = subst (λ j. IsKeptSince c first (reverse j) told h s) (sym (append-nil journal)) kept

@@ -116,7 +116,7 @@ by_read number judged known read less is was =
     let second : number_of judged ≡ read.number = ap number_of was in
     omega (arith, less, first, second)
 
--- What was read is what is known to stand.
+-- What was read is what is known to be there.
 same_read : (last : Option Generation) (judged : Result Generation Fault) (known read : Generation) → IsLastOrLater last known → judged ≡ Ok known → judged ≡ Ok read → IsLastOrLater last read
 same_read last judged known read of is was = subst (IsLastOrLater last) (ap (generation_or known) (sym is ∙ was)) of
 

@@ -18,7 +18,7 @@ use Rattle.flt_queue.specs.declared.job.QueueReplyOf.TheVariants as replies
 use Rattle.flt_life_model.specs.Actions.{IsQueueCall}
 use Rattle.flt_life_model.specs.Answers.{queue_reply_size, reply_size}
 
--- A response has at most so many bytes.
+-- A response has at most this many bytes.
 pub size_most : (kind : ReplyKind) (response : List ℕ) → length response ≤ RESPONSE → reply_size (reply_with kind response) ≤ RESPONSE
 size_most (kinds.Response _) response few = few
 size_most kind response few = omega arith

@@ -30,7 +30,7 @@ map_answer of_reply of_queue of_bytes BlockFlash = BlockFlash
 map_answer of_reply of_queue of_bytes Armed = Armed
 map_answer of_reply of_queue of_bytes Dark = Dark
 
--- An answer with the kind of a reply, whose response stands beside it.
+-- An answer with the kind of a reply, whose response is beside it.
 abbrev pub GivenAnswer : Type 0
 GivenAnswer = StepAnswer ReplyKind QueueReply (ArrayVec ℕ)
 

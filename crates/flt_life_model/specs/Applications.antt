@@ -85,7 +85,7 @@ answers_of deeds = map (λ d. d.1) deeds
 
 -- The application blocks hold what the jobs may have left that are done so far, and each read was answered by those before it.
 pub record AreHeld (first : ℕ → Content) (past : History) (jobs : ℕ) (deeds : List Deed) (values : ℕ → Content) : Type 0 where
-  pub done : jobs ≡ done_count past
+  pub counts_jobs : jobs ≡ done_count past
   pub held : HoldApplications first (up_to_done jobs past) values
   pub got : AreGot first past deeds
   pub told : jobs_told (answers_of deeds) ≤ jobs

@@ -56,7 +56,7 @@ pub record DrainMakes (written failed : ℕ) (calls : List QueueCall) : Type 0 w
 
 module _ {B : Type 0} {b : Ghosts B} where
   -- A job was written to its block, or could not be, and each other block was left as it was. Where the last sequence number is not in
-  -- use behind it, a job that could not be written met three faults.
+  -- use after it, a job that could not be written met three faults.
   pub record WritesJob (c : Config) (job : Job) (written : Bool) (store now : Store B b) : Type 0 where
     pub all : written ≡ true → (driver_of now).value (application_number job.block) ≡ holding job.bytes.items
     pub either : ((driver_of now).value (application_number job.block) ≡ (driver_of store).value (application_number job.block))
@@ -65,4 +65,4 @@ module _ {B : Type 0} {b : Ghosts B} where
     pub running : (held spare : Generation) → IsRunning c held spare store → IsRunning c held spare now
     pub rose : (held spare : Generation) → IsRunning c held spare store → IsFalse (driver_of now).is_spent
         → HasRisenBy (3 * one_if (not written)) (driver_of store).device.faults (driver_of now).device.faults
-    pub follows : Follows (driver_of store) (driver_of now)
+    pub keeps_driver : Follows (driver_of store) (driver_of now)

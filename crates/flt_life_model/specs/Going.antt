@@ -6,12 +6,12 @@ use Rattle.flt_flash.specs.State.{HasRisenBy}
 use Rattle.flt_flash.specs.Blocks.{BlocksState}
 use Rattle.flt_life_model.specs.Moment.{boot_of}
 
--- An arm of a life with so many boots, made when the count of faults had come to this.
+-- An arm of a life with this many boots, made when the count of faults had come to this.
 pub record IsMadeIn (boots count : ℕ) (arm : ArmMade) : Type 0 where
   pub life : arm.boots ≡ boots
   pub later : HasRisenBy 0 count arm.faults
 
--- The arms made since then, where they are told, are of one life and were made past this count.
+-- The arms made since then, where they are known, are of one life and were made past this count.
 pub record AddsArms (boots count : ℕ) (earlier made : List ArmMade) : Type 0 where
   pub more : List ArmMade
   pub is : made ≡ earlier ++ more
@@ -29,11 +29,11 @@ pub record GoesOn (before after : BlocksState) : Type 0 where
   pub boots_left : after.device.bench.boots_left ≡ before.device.bench.boots_left
   pub arms : ArmsSince (length before.device.bench.boots) before.device.faults before.device.bench.arms after.device.bench.arms
 
--- The arms that were made between two states of a bench, where they are told, are these by what is seen of each.
+-- The arms that were made between two states of a bench, where they are known, are these by what is seen of each.
 pub record AddsGiven {A : Type 0} (of : ArmMade → A) (arms : List A) (earlier made : List ArmMade) : Type 0 where
   pub more : List ArmMade
   pub is : made ≡ earlier ++ more
-  pub given : map of more ≡ arms
+  pub arms_are : map of more ≡ arms
 
 abbrev pub WereAdded : {A : Type 0} → (ArmMade → A) → List A → Option (List ArmMade) → Option (List ArmMade) → Type 0
 WereAdded of arms before after = IfSome after (λ made. IsSomeAnd before (λ earlier. AddsGiven of arms earlier made))

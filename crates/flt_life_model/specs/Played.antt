@@ -77,7 +77,7 @@ pub record IsMade {S O R : Type 0} (MadeBy : Step → Told → List (Call O R) �
     (parts : List (PartOf Step)) (own : List Told) (lanes : List (List Told)) (journal : List (Entry O)) : Type 0 where
   pub blocks : List (Block O R)
   pub made : PartsMake MadeBy 1 parts own lanes blocks
-  pub follows : HasInOrder blocks journal
+  pub in_order : HasInOrder blocks journal
   pub told : All (BlockTold answer start journal) blocks
   pub rising : (number : ℕ) → Rise 0 (calls_in_lane number blocks)
 

@@ -3,8 +3,8 @@
 //!
 //! This crate has the definitions of the chain of lives, over any machine that keeps blocks, the types that describe a life, and the
 //! room that a life needs for its calls and its answers.
-//! It stands on `flt_script` for the steps, on `flt_model`, `flt_turn` and `flt_fork` for the calls and their answers, on `flt_queue` for the
-//! write jobs, and on the storage for what an image holds. The layers above make lives: without a lock, and in lanes. Read
+//! It depends on `flt_script` for the steps, on `flt_model`, `flt_turn` and `flt_fork` for the calls and their answers, on `flt_queue`
+//! for the write jobs, and on the storage for what an image holds. The layers above make lives: without a lock, and in lanes. Read
 //! `specs/Played` first (which calls the parts of a life make, and how each step is answered), then `Chain` (what holds of a life and
 //! its two power-ups), `Journal`, `Saving` and `Causes`, and `Going` and `SoFar` for what holds in the midst of a life; `Making` holds for
 //! any machine and any kind of steps, and so does `Mixing` of `flt_fork`.

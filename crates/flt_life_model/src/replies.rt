@@ -53,7 +53,7 @@ impl LaneReplies {
     }
 }
 
-/// Keeps these bytes behind the others.
+/// Keeps these bytes after the others.
 #[inline(always)]
 fn kept_bytes(bytes: &[u8], responses: &mut Vec<u8>) -> KeptResponse
     requires { vec_len responses.old + length bytes.now ≤ byte_room responses.old }

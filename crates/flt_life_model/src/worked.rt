@@ -6,7 +6,7 @@ pub fn life_leaves()
     ensures { LifeLeaves }
 {}
 
-/// How many faults are behind a save and a job that failed.
+/// How many faults there are of a save and a job that failed.
 pub fn failures_have_faults()
     ensures { FailuresHaveFaults }
 {}

@@ -45,7 +45,7 @@ one_line before after Fed kept taken not_ended = taken.one
 one_line before after Cut kept taken not_ended = (taken.one, taken.end.0)
 one_line before after Ended kept taken not_ended = absurd (not_ended refl)
 
--- It is told as answered, or as a `power`.
+-- It is reported as answered, or as a `power`.
 not_power : (what : Due) → IsToldBy what told.Line → what ≢ due.Power
 not_power due.Nothing is = λ same. absurd (cc same)
 not_power (due.Refuse refusal) is = λ same. absurd (cc same)
@@ -268,7 +268,7 @@ going_first c first found now unit queue store living same stands = record {
     living = living;
     queued = stands;
     answered = refl;
-    follows = no_call (driver_of store);
+    keeps_driver = no_call (driver_of store);
     caused = record {
       held_now = living.held;
       spare_now = living.spare;
@@ -278,7 +278,7 @@ going_first c first found now unit queue store living same stands = record {
       spent = λ failed. absurd failed;
       sequence = λ failed. absurd failed;
     };
-    held = record { done = refl; held = same; got = tt; told = omega arith };
+    held = record { counts_jobs = refl; held = same; got = tt; told = omega arith };
   };
   written = nothing_more now.held;
   read = none_more now.ahead;

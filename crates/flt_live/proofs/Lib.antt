@@ -1,5 +1,4 @@
 pub mod Taking
-pub mod Jobs
 pub mod Midway
 pub mod Dues
 pub mod Writings

@@ -36,7 +36,7 @@ use Rattle.flt_life_model.proofs.Causing.{caused_first}
 use Rattle.flt_life_model.proofs.HeldBlocks.{apart, held_beside, held_by, held_deed}
 use Rattle.flt_life_model.proofs.Keeping.{kept_entry, kept_other}
 use Rattle.flt_lives.specs.Living.{IsLiving}
-use Rattle.flt_live.specs.Draining.{HasDrained}
+use Rattle.flt_lives.specs.Draining.{HasDrained}
 use Rattle.flt_live.specs.Made.{Finds, IsAnswered, IsMidway, IsSave, MakesStep, Made, ReadsSo, SavesSo, deeds_made, answers_of_made, journal_of, with_calls, with_deed_by, with_save}
 
 module _ {B : Type 0} {b : Ghosts B} (c : Config) (step : Step) (told : Told) where
@@ -52,12 +52,12 @@ module _ {B : Type 0} {b : Ghosts B} (c : Config) (step : Step) (told : Told) wh
     living = subst (λ (does : Action). IsLiving c first (with_calls does told (journal_of made)) (answers_of (with_deed_by does step told (deeds_made made))) next_unit next_store) (sym is) living;
     queued = queued;
     answered = (mid.jobs, mid.answered, subst (λ (does : Action). IsAnswered (start_from c first.state) (journal_of made) mid.jobs does told jobs) (sym is) answered);
-    follows = more_calls begun (driver_of store) (driver_of next_store) mid.follows follows;
+    keeps_driver = more_calls begun (driver_of store) (driver_of next_store) mid.keeps_driver follows;
     caused = subst (λ (does : Action). IsCaused c begun.device.faults (answers_of (with_deed_by does step told (deeds_made made))) next_store) (sym is) caused;
     held = subst (λ (does : Action). AreHeld found jobs (jobs_told (answers_of (with_deed_by does step told (deeds_made made)))) (with_deed_by does step told (deeds_made made)) (driver_of next_store).value) (sym is) held;
   }
 
--- A save tells of no job.
+-- A save reports no job.
 save_tells_none : (told : Told) (earlier : List Told) → IsSave told → jobs_told (told ∷ earlier) ≡ jobs_told earlier
 save_tells_none (answers.Saved number) earlier is = refl
 save_tells_none (answers.SaveFailed fault) earlier is = refl
@@ -124,7 +124,7 @@ module _ {B : Type 0} {b : Ghosts B} (c : Config) (step : Step) where
   pub made_save : (told : Told) → action_of step ≡ actions.Save → (unit next_unit : UnitView) (queue : JobQueue) (store next_store : Store B b) → SavesSo c unit next_unit store next_store told
       → MakesStep c step told unit next_unit queue queue store next_store
   made_save told is unit next_unit queue store next_store saves = λ first found begun made mid.
-      midway_more c step told actions.Save is first found begun made unit next_unit queue queue store next_store mid mid.jobs (saves.living first (journal_of made) (answers_of_made made) mid.living) mid.queued (saves.is, refl) saves.follows
+      midway_more c step told actions.Save is first found begun made unit next_unit queue queue store next_store mid mid.jobs (saves.living first (journal_of made) (answers_of_made made) mid.living) mid.queued (saves.is, refl) saves.keeps_driver
       (saves.caused begun.device.faults (answers_of_made made) mid.caused)
       (held_deed found (deeds_made made) (step, told) (driver_of store).value (driver_of next_store).value saves.applications (save_tells_none told (answers_of_made made) saves.is) mid.jobs
       (λ held. subst (λ (does : Action). GetsBy found mid.jobs (deeds_made made) does told) (sym is) tt) mid.held)
@@ -132,7 +132,7 @@ module _ {B : Type 0} {b : Ghosts B} (c : Config) (step : Step) where
   pub made_get : (told : Told) (block : ℕ) → action_of step ≡ actions.Get block → block < applications → (unit : UnitView) (queue : JobQueue) (store next_store : Store B b) → ReadsSo c block store next_store told
       → MakesStep c step told unit unit queue queue store next_store
   made_get told block is below unit queue store next_store reads = λ first found begun made mid.
-      midway_more c step told (actions.Get block) is first found begun made unit unit queue queue store next_store mid mid.jobs (reads.living first (journal_of made) (answers_of_made made) unit mid.living) mid.queued (reads.is, refl) reads.follows
+      midway_more c step told (actions.Get block) is first found begun made unit unit queue queue store next_store mid mid.jobs (reads.living first (journal_of made) (answers_of_made made) unit mid.living) mid.queued (reads.is, refl) reads.keeps_driver
       (reads.caused begun.device.faults (answers_of_made made) mid.caused)
       (held_deed found (deeds_made made) (step, told) (driver_of store).value (driver_of next_store).value (λ number small. reads.values (application_number number))
       (read_tells_none found mid.jobs (deeds_made made) (driver_of store).value block below told reads.found) mid.jobs
@@ -159,7 +159,7 @@ module _ {B : Type 0} {b : Ghosts B} (c : Config) (step : Step) where
       (subst (λ n. IsCaused c begun.device.faults (answers.Drained written n ∷ answers_of_made made) next_store) (omega arith)
       (done.carries.caused begun.device.faults (answers_of_made made) 0 written 0 (caused_first c store begun.device.faults (answers_of_made made) mid.caused)))
       (record {
-        done = held.done;
+        counts_jobs = held.counts_jobs;
         held = held.held;
         got = (subst (λ (does : Action). GetsBy found done.after (deeds_made made) does told) (sym is) tt, held.got);
         told = omega arith;

@@ -60,7 +60,7 @@ module _ {B : Type 0} {b : Ghosts B} (c : Config) (before : BlocksState) (number
     held = mid.living.held;
     spare = mid.living.spare;
     last = kept_seen.last;
-    sound = record { undamaged = mid.follows.no_new_damage (begins.no_new_damage begins.is.0.undamaged); sound = mid.living.running.sound };
+    sound = record { undamaged = mid.keeps_driver.no_new_damage (begins.no_new_damage begins.is.0.undamaged); sound = mid.living.running.sound };
     acknowledged = kept_seen.acknowledged;
     held_is = kept_seen.held_is;
     spare_is = kept_seen.spare_is;
@@ -74,7 +74,7 @@ module _ {B : Type 0} {b : Ghosts B} (c : Config) (before : BlocksState) (number
   applications_kept : KeepsApplications (moment_of before) (moment_of (driver_of last)) seen
   applications_kept = record {
     held = subst (λ jobs. HoldApplications before.value jobs (driver_of last).value) (sym (queue_is (boots.Started number state) made mid.jobs))
-        (λ block below. may_whole block (before.value _) ((driver_of last).value _) mid.jobs _ mid.held.done (mid.held.held block below));
+        (λ block below. may_whole block (before.value _) ((driver_of last).value _) mid.jobs _ mid.held.counts_jobs (mid.held.held block below));
     got = subst (λ jobs. AreGot before.value jobs (chain.deeds_of seen)) (sym (queue_is (boots.Started number state) made mid.jobs))
         (subst (AreGot before.value mid.jobs) (sym (deeds_are (boots.Started number state) made mid.jobs)) mid.held.got);
   }
@@ -188,8 +188,8 @@ module _ {B : Type 0} {b : Ghosts B} (c : Config) (number status : ℕ) (before 
 
   serves_by : (how : Boot) (t : Talk) → GoesOnBy c how before.value lived.begun last unit t after Power → ServesOn before (driver_of last)
   serves_by (boots.Started generation state) t goes = record {
-    numbers = goes.midway.follows.numbers ∙ lived.is.numbers;
-    room = goes.midway.follows.room ∙ lived.is.room;
+    numbers = goes.midway.keeps_driver.numbers ∙ lived.is.numbers;
+    room = goes.midway.keeps_driver.room ∙ lived.is.room;
   }
   serves_by boots.Dark t goes = as_begun (ap driver_of goes.0)
   serves_by (boots.Refused fault) t goes = as_begun (ap driver_of goes.0)

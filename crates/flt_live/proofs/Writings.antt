@@ -1,4 +1,4 @@
--- Texts that are written one behind the other, and where no byte was written.
+-- Texts that are written one after the other, and where no byte was written.
 use Rattle.std.proofs.Common.{◌≡◌, ◌++◌, ℕ, List, [], Option, Some, None, Result, Err, sym, ap, subst, arith, ◌∙◌}
 use Rattle.std.proofs.lemmas.List.{append-nil, append_assoc}
 use Rattle.std.proofs.Math.Seq.{take-append-add, take-length}
@@ -22,7 +22,7 @@ appends_more (Some a) None c xs ys first second = absurd first
 appends_more (Some a) (Some b) None xs ys first second = absurd second
 appends_more (Some a) (Some b) (Some c) xs ys first second = second ∙ ap (λ l. l ++ ys) first ∙ append_assoc a xs ys
 
--- The whole is a front of itself, and behind a text that was written stands a front of both.
+-- The whole is a front of itself, and after a text that was written comes a front of both.
 pub front_whole : (a b : Option (List ℕ)) (xs : List ℕ) → Appends a b xs → AppendsFront a b xs
 front_whole a b xs whole = (length xs, subst (Appends a b) (sym (take-length xs)) whole)
 

@@ -11,7 +11,7 @@ use Rattle.flt_live.specs.declared.reader.Line.TheVariants.{Fed, Cut, Ended}
 abbrev pub pulled : LineReader → List ℕ
 pulled reader = take (reader.to - reader.from) (drop reader.from reader.piece)
 
--- These bytes, and then what is left of a source, where it tells that.
+-- These bytes, and then what is left of a source, where it reveals that.
 abbrev pub ahead_with : List ℕ → Option (List ℕ) → Option (List ℕ)
 ahead_with bytes None = None
 ahead_with bytes (Some left) = Some (bytes ++ left)

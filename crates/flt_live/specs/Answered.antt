@@ -27,14 +27,14 @@ pub record IsReady (room : Room) : Type 0 where
   pub answers : 1 ≤ vec_capacity room.replies.answers
   pub responses : 1040 ≤ byte_room room.replies.responses
 
--- A `power` is told as such, and every other line as answered.
+-- A `power` is reported as such, and every other line as answered.
 abbrev pub IsToldBy : Due → Answered → Type 0
 IsToldBy due.Power told = told ≡ Power
 IsToldBy _ told = told ≡ Line
 
 module _ {B : Type 0} {b : Ghosts B} where
-  -- A step is made and its answer is told. Every other line leaves all as it was: one that says nothing is answered by an empty line, and
-  -- one that is refused by why; a `power` is not answered here.
+  -- A step is made and its answer is written. Every other line leaves all as it was: one that says nothing is answered by an empty line,
+  -- and one that is refused by why; a `power` is not answered here.
   abbrev pub Answers : Config → Due → List ℕ → (unit next_unit : UnitView) → (queue next_queue : JobQueue) → (store next_store : Store B b) → Type 0
   Answers c due.Nothing line unit next_unit queue next_queue store next_store =
       (line ≡ 10 ∷ []) × (next_unit ≡ unit) × (next_queue ≡ queue) × (next_store ≡ store)

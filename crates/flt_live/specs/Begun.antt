@@ -17,7 +17,7 @@ use Rattle.flt_life_model.specs.declared.life.Boot.TheVariants.{Started, Dark, R
 abbrev pub without_steps : Boot → LifeView
 without_steps boot = record { parts = []; boot = boot; journal = []; queue = []; own = []; lanes = [] }
 
--- It has the cause that such a life of `run` has, between the driver before the power-up and that behind the start-up.
+-- It has the cause that such a life of `run` has, between the driver before the power-up and that after the start-up.
 abbrev pub HasBegun : {B : Type 0} {b : Ghosts B} → Config → BlocksState → Boot → Store B b → Type 0
 HasBegun c before boot store = IsLifeBetween c (moment_of before) (moment_of (driver_of store)) (driver_of store).device.faults (without_steps boot)
 

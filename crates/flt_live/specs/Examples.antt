@@ -25,7 +25,7 @@ fed whole answer = record { whole = whole; ended = Fed; answer = answer }
 abbrev pub cut : List ℕ → List ℕ → Heard
 cut whole answer = record { whole = whole; ended = Cut; answer = answer }
 
--- An empty line, and behind it a comment that no line feed ends, which is the newest. Neither says anything.
+-- An empty line, and after it a comment that no line feed ends, which is the newest. Neither says anything.
 abbrev pub two_lines : List Heard
 two_lines = cut (35 ∷ 120 ∷ []) (10 ∷ []) ∷ fed [] (10 ∷ []) ∷ []
 
@@ -69,7 +69,7 @@ pub record EndsAreTold : Type 0 where
   pub dark : status_due (sessions.Ended boots.Dark) ≡ 5
   pub spent : status_due (sessions.Ended (boots.Refused faults.SequenceSpent)) ≡ 8
 
--- The words that ask for a session, behind the program's name.
+-- The words that ask for a session, after the program's name.
 pub record WordsAsk : Type 0 where
   pub none : session_in [] ≡ None
   pub word : session_in (codes "live" ∷ []) ≡ None

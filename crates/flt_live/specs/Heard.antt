@@ -12,7 +12,7 @@ use Rattle.flt_live.specs.Ahead.{line_end_of, kept_text}
 use Rattle.flt_live.specs.Due.{due_at, refusal_line}
 use Rattle.flt_live.specs.Made.{Made}
 
--- What a life reads from and writes to: the bytes that are ahead of it and those that the sink holds, where these are told, and how often
+-- What a life reads from and writes to: the bytes that are ahead of it and those that the sink holds, where these are known, and how often
 -- the source and the sink failed.
 pub record Talk : Type 0 where
   pub ahead : Option (List ℕ)

@@ -37,7 +37,7 @@ EachGoesOn c (life ∷ earlier) =
     IsNoOlder c (acknowledged_in (views_in earlier)) (last_acknowledged c (views_in earlier)) (moment_of life.before)
     × BeginsNoOlder (acknowledged_in (views_in earlier)) (last_acknowledged c (views_in earlier)) life.boot × EachGoesOn c earlier
 
--- So it is in each session over a shelf that tells what it keeps.
+-- So it is in each session over a shelf that reveals what it keeps.
 abbrev pub SessionsKeep : Type 0
 SessionsKeep = (c : Config) → IsGiven c → (from to : Talk) (boot : Boot) (end : LifeEnd) (lives : AreSpans true c from to boot end)
     → FirstFindsSound c (lives.life ∷ lives.earlier) → EachGoesOn c (lives.life ∷ lives.earlier)

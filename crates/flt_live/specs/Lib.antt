@@ -1,5 +1,4 @@
 pub mod Ahead
-pub mod Draining
 pub mod Made
 pub mod Due
 pub mod Answered

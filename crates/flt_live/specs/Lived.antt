@@ -47,7 +47,7 @@ IfLost Unwritten fact = fact
 IfLost Memory fact = fact
 IfLost _ fact = Unit {0}
 
--- Some front of this text, and behind it of the answers to lines that the life read, was written, and no more.
+-- Some front of this text, and after it of the answers to lines that the life read, was written, and no more.
 pub record IsCutShort (c : Config) (text : List ℕ) (before after : Talk) : Type 0 where
   pub heard : List Heard
   pub made : List Made
@@ -59,7 +59,7 @@ abbrev pub IsLostFor : ℕ → ℕ → LifeEnd → Type 0
 IsLostFor before after Unwritten = Rose before after
 IsLostFor before after _ = Unit {0}
 
--- Why a life ended behind these lines, and that it took no byte more: the next one is a `power`; there is no more; or the source failed.
+-- Why a life ended after these lines, and that it took no byte more: the next one is a `power`; there is no more; or the source failed.
 abbrev pub EndsBy : Config → List Heard → (before after : Talk) → LifeEnd → Type 0
 EndsBy c heard before after Power = (last : Heard) × IsOneLine last.ended last.whole × (due_at c (text_in last) ≡ due.Power)
     × Consumes before.ahead after.ahead (heard_bytes (last ∷ heard))

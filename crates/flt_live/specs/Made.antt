@@ -31,7 +31,7 @@ use Rattle.flt_life_model.specs.declared.action.Action.{Action}
 use Rattle.flt_life_model.specs.declared.action.Action.TheVariants as actions
 use Rattle.flt_life_model.specs.declared.answer.StepAnswer.TheVariants as answers
 use Rattle.flt_lives.specs.Living.{IsLiving}
-use Rattle.flt_live.specs.Draining.{Drains}
+use Rattle.flt_lives.specs.Draining.{Drains}
 
 abbrev pub Made : Type 0
 Made = Step × Told
@@ -72,7 +72,7 @@ deeds_made (made ∷ earlier) = with_deed_by (action_of made.0) made.0 made.1 (d
 abbrev pub answers_of_made : List Made → List Told
 answers_of_made made = answers_of (deeds_made made)
 
--- The answer is the machine's to a call behind these.
+-- The answer is the machine's to a call after these.
 abbrev pub IsReply : Start → Journal → Op → Told → Type 0
 IsReply start journal op (answers.Dem told) = told.reply ≡ answer start (calls_of journal) op
 IsReply start journal op _ = ⊥
@@ -90,17 +90,17 @@ Finds content answers.NoBlock = content ≡ missing
 Finds content answers.BlockFlash = Unit {0}
 Finds content _ = ⊥
 
--- The answer is the queue's to a call behind these.
+-- The answer is the queue's to a call after these.
 abbrev pub IsQueueReply : History → QueueOp → Told → Type 0
 IsQueueReply before op (answers.Queue told) = told.reply ≡ answer_q before op
 IsQueueReply before op _ = ⊥
 
--- The answer tells how many jobs a drain wrote, and how many it could not write.
+-- The answer says how many jobs a drain wrote, and how many it could not write.
 abbrev pub IsDrain : History → Told → History → Type 0
 IsDrain before (answers.Drained written failed) after = Drains before written failed after
 IsDrain before _ after = ⊥
 
--- The answer to a step behind these calls of both machines, and the calls of the queue behind it.
+-- The answer to a step after these calls of both machines, and the calls of the queue after it.
 abbrev pub IsAnswered : Start → Journal → History → Action → Told → History → Type 0
 IsAnswered start journal before (actions.Call op) told after = IsReply start journal op told × (after ≡ before)
 IsAnswered start journal before (actions.Queue op) told after = IsQueueReply before op told × (after ≡ op ∷ before)
@@ -125,7 +125,7 @@ module _ {B : Type 0} {b : Ghosts B} where
     pub living : IsLiving c first (journal_of made) (answers_of_made made) unit store
     pub queued : standing.QueueStands c.blocks jobs queue
     pub answered : AreAnswered (start_from c first.state) made jobs
-    pub follows : Follows begun (driver_of store)
+    pub keeps_driver : Follows begun (driver_of store)
     pub caused : IsCaused c begun.device.faults (answers_of_made made) store
     pub held : AreHeld found jobs (jobs_told (answers_of_made made)) (deeds_made made) (driver_of store).value
 
@@ -141,7 +141,7 @@ module _ {B : Type 0} {b : Ghosts B} where
         → IsLiving c first (with_save told journal) (told ∷ earlier) next_unit next_store
     pub caused : (begun : ℕ) (earlier : List Told) → IsCaused c begun earlier store → IsCaused c begun (told ∷ earlier) next_store
     pub applications : SameApplications (driver_of store).value (driver_of next_store).value
-    pub follows : Follows (driver_of store) (driver_of next_store)
+    pub keeps_driver : Follows (driver_of store) (driver_of next_store)
 
   -- An application block was read, and this answered.
   pub record ReadsSo (c : Config) (block : ℕ) (store next_store : Store B b) (told : Told) : Type 0 where
@@ -151,4 +151,4 @@ module _ {B : Type 0} {b : Ghosts B} where
     pub caused : (begun : ℕ) (earlier : List Told) → IsCaused c begun earlier store → IsCaused c begun (told ∷ earlier) next_store
     pub found : Finds ((driver_of store).value (application_number block)) told
     pub values : SameValues (driver_of store) (driver_of next_store)
-    pub follows : Follows (driver_of store) (driver_of next_store)
+    pub keeps_driver : Follows (driver_of store) (driver_of next_store)

@@ -159,8 +159,8 @@ status_told status (Ok told) = status
 status_told status (Err streams.Failed) = 4
 status_told status (Err streams.Memory) = 7
 
--- Whether the words behind the program's name ask for a session: `live`, a configuration, and an image if there is one. Without an image
--- the flash is in memory, which tells what it keeps.
+-- Whether the words after the program's name ask for a session: `live`, a configuration, and an image if there is one. Without an image
+-- the flash is in memory, which reveals what it keeps.
 abbrev pub session_in : List (List ℕ) → Option Bool
 session_in [] = None
 session_in (word ∷ []) = None

@@ -24,7 +24,7 @@ use Rattle.flt_live.specs.Lived.{EndsBy, IfLost, IsCutShort, IsLostFor, TakesDar
 use Rattle.flt_live.specs.Made.{AreAnswered, Made, journal_of}
 
 -- A life from end to end: its number, how it began, why it ended, and what it is in the words of a run; its blocks before the power-up,
--- behind the start-up, and at its end; and how far was read and written at both ends.
+-- after the start-up, and at its end; and how far was read and written at both ends.
 pub record LifeSpan : Type 0 where
   pub number : ℕ
   pub boot : Boot
@@ -60,7 +60,7 @@ seen_as boot made jobs = record {
   lanes = [];
 }
 
--- A life that was started took these lines, which made these steps, each with the answer that is due behind those before it.
+-- A life that was started took these lines, which made these steps, each with the answer that is due after those before it.
 pub record TookLines (c : Config) (boot : Boot) (start : Start) (view : LifeView) (from after : Talk) (end : LifeEnd) : Type 0 where
   pub heard : List Heard
   pub made : List Made
@@ -99,7 +99,7 @@ pub record SameBlocks (last before : BlocksState) : Type 0 where
   pub damage : before.damage ≡ last.damage
   pub is_spent : before.is_spent ≡ last.is_spent
 
--- A life found what the one before it left, if the shelf tells what it keeps.
+-- A life found what the one before it left, if the shelf reveals what it keeps.
 abbrev pub IsFoundBehind : Bool → List LifeSpan → BlocksState → Type 0
 IsFoundBehind tells [] before = Unit {0}
 IsFoundBehind tells (life ∷ earlier) before = IsTrue tells → SameBlocks life.last before

@@ -1,7 +1,7 @@
 //! A session of the fault memory: it reads one line, makes its step, and answers it before it reads the next, over a flash that outlives
 //! the process.
 //!
-//! It stands on `flt_script` for a line and for the configuration, on `flt_lives` for a step, on `flt_queue` for the write jobs, on
+//! It depends on `flt_script` for a line and for the configuration, on `flt_lives` for a step, on `flt_queue` for the write jobs, on
 //! `flt_report` for a line of the answer, and on `flt_file` for the flash. The program above calls
 //! `run_live`, which holds a session by `run_session` over a `Shelf`. That gives the flash of each life: `FileShelf` opens a file, and
 //! `MemShelf` keeps it in memory. Read `specs/Answered.antt` first (what one line leaves, and what is written for it), then `specs/Lived.antt`

@@ -17,7 +17,7 @@ use std::sync::Wait;
 
 const USAGE: &[u8] = b"usage: faultmem live CONFIG [IMAGE]\n";
 
-/// The paths that the words behind the program's name ask for: that of the configuration, and that of the image if there is one.
+/// The paths that the words after the program's name ask for: that of the configuration, and that of the image if there is one.
 fn read_words(words: &[String]) -> Option<(&str, Option<&str>)>
     ensures { option_map (λ asked. is_none asked.1) result ≡ session_in (map string_bytes words.now) }
 {
@@ -71,7 +71,7 @@ pub(crate) fn status_told(status: Status, told: Result<(), StreamFault>) -> Stat
     }
 }
 
-/// Does what the words behind the program's name ask for: holds a session with the configuration of a file, over the flash of another file
+/// Does what the words after the program's name ask for: holds a session with the configuration of a file, over the flash of another file
 /// or over one in memory. All other words are answered with the usage line.
 pub fn run_live<R: AllocGlobal + Files<File = File> + Wait, S: Source, K: Sink>(
     rt: &R,

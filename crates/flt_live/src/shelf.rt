@@ -14,10 +14,10 @@ pub trait Shelf<B: Bench + Drop> {
     /// The image that it keeps between two lives, if it keeps one.
     ghost kept: { Self → Option (List (List (List ℕ))) };
 
-    /// Whether it tells that image. No contract of the standard library says which bytes a file keeps, so a shelf of files tells nothing.
+    /// Whether it reveals that image. No contract of the standard library says which bytes a file keeps, so one of files reveals nothing.
     ghost tells: { Bool };
 
-    /// The flash of so many pages a sector, 2 to 1,024, whose power may come once at least. It has the image that was kept.
+    /// The flash of this many pages a sector, 2 to 1,024, whose power may come once at least. It has the image that was kept.
     fn open(&mut self, pages: u16) -> Result<B, OpenFault>
         requires least { 2 ≤ pages }
         requires most { pages ≤ 1024 }
@@ -54,12 +54,12 @@ impl<R: Files<File = File> + AllocGlobal> Shelf<FlashFile<FileBytes>> for FileSh
     fn close(&mut self, _flash: FlashFile<FileBytes>) {}
 }
 
-/// The bytes of a flash of two sectors of so many pages.
+/// The bytes of a flash of two sectors of this many pages.
 #[derive(Drop)]
 pub struct KeptImage {
     /// How many pages a sector has.
     pub pages: u16,
-    /// The bytes of sector 0, and behind them those of sector 1.
+    /// The bytes of sector 0, and after them those of sector 1.
     pub bytes: Vec<u8>,
 }
 
@@ -77,7 +77,7 @@ impl<'a, R: AllocGlobal> MemShelf<'a, R> {
     }
 }
 
-/// The bytes of a flash of so many pages: those that were kept, or blank ones.
+/// The bytes of a flash of this many pages: those that were kept, or blank ones.
 fn bytes_for(alloc: Global, kept: &mut Option<KeptImage>, pages: u16) -> Result<Vec<u8>, OpenFault>
     ensures size { IfOk result (λ bytes. length bytes.items ≡ 64 * pages) }
     ensures kept { IfOk result (λ bytes. GivesBack (kept_in kept.old) (image_in pages bytes.items)) }

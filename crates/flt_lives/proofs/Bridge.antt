@@ -32,7 +32,7 @@ module _ {A F E : Type 0} (c : Config) (medium : Medium) (script : List (Vec Par
   left_by b before after (Ok lives) keeps whole begun sound =
       let all = sym (length-map script (λ (life : Vec Part A). parts_of life.items)) in
       record {
-        lived = record { played = whole.played; ended = subst (λ many. AreEnded many (lives_seen (lists script) lives.items)) all whole.ended; linked = whole.linked medium keeps; given = whole.given };
+        lived = record { played = whole.played; ended = subst (λ many. AreEnded many (lives_seen (lists script) lives.items)) all whole.ended; linked = whole.linked medium keeps; arms_made = whole.arms_made };
         begun = subst (λ many. BeginsLives many before.device after.device) all begun;
         sound = sound;
       }

@@ -29,7 +29,7 @@ use Rattle.flt_lives.specs.Living.{deeds_told, with_answer}
 
 -- ---- one step more
 
--- Its deed stands behind those of the parts before it.
+-- Its deed comes after those of the parts before it.
 pub deeds_more : (parts : List (PartOf Step)) (own : List Told) (lanes : List (List Told)) (step : Step) (told : Told) → length own ≡ length (own_steps parts)
     → deeds_in (parts ++ inl step ∷ []) (own ++ told ∷ []) lanes ≡ deeds_in parts own lanes ++ with_deed step told []
 deeds_more [] [] lanes step told size = refl

@@ -40,13 +40,13 @@ views_count (parts ∷ script) (life ∷ made) = ap suc (views_count script made
 pub seen_count : (script : List (List (PartOf Step))) (made : List Life) → length (lives_seen script made) ≡ length made
 seen_count script made = length-reverse (views_of script made) ∙ views_count script made
 
--- So many lives were made of the first parts of a script, over a store that was as before and is as now.
+-- This many lives were made of the first parts of a script, over a store that was as before and is as now.
 pub record AreMadeSoFar {B : Type 0} {b : Ghosts B} {A : Type 0} (c : Config) (script : List (Vec Part A)) (index : ℕ) (before now : Store B b) (made : List Life) : Type 0 where
   pub many : length made ≡ index
   pub count : length (driver_of now).device.bench.boots ≡ length (driver_of before).device.bench.boots + index
   pub begun : BeginsLives index (driver_of before).device (driver_of now).device
   pub played : ArePlayed c (lives_seen (lists script) made)
-  pub given : WereGivenIn (arms_given (length (driver_of before).device.bench.boots) (lives_seen (lists script) made))
+  pub arms_made : WereGivenIn (arms_given (length (driver_of before).device.bench.boots) (lives_seen (lists script) made))
       (driver_of before).device.bench.arms (driver_of now).device.bench.arms
   pub linked : (medium : Medium) → KeepsOn b c medium → IsLinkedBy c medium (driver_of before) (driver_of now) (lives_seen (lists script) made)
 
@@ -59,7 +59,7 @@ none_made {A = A} c script store made none =
       count = omega arith;
       begun = none_begun 0 (driver_of store).device;
       played = All-nil _;
-      given = none_added (λ a. (a.boots, a.arm)) (driver_of store).device.bench.arms;
+      arms_made = none_added (λ a. (a.boots, a.arm)) (driver_of store).device.bench.arms;
       linked = λ medium keeps. links_none c medium (driver_of store);
     }
 
@@ -93,9 +93,9 @@ module _ {A : Type 0} (script : List (Vec Part A)) (index : ℕ) (item : Vec Par
           count = omega (arith, count, boots);
           begun = begun_next _ _ (driver_of before).device (driver_of now).device (driver_of after).device (omega arith) so_far.begun begins;
           played = subst (ArePlayed c) seen (All-cons (IsPlayed c) view earlier whole.played so_far.played);
-          given = subst (λ (views : List LifeView). WereGivenIn (arms_given (length first.boots) views) first.arms last.arms) seen
+          arms_made = subst (λ (views : List LifeView). WereGivenIn (arms_given (length first.boots) views) first.arms last.arms) seen
               (more_given (length first.boots) (length (driver_of now).device.bench.boots) whole.lived.ended earlier view first.arms (driver_of now).device.bench.arms last.arms (omega (arith, count, size, many))
-              so_far.given whole.lived.arms whole.given);
+              so_far.arms_made whole.lived.arms whole.arms_made);
           linked = λ medium keeps. subst (λ (views : List LifeView). IsLinkedBy c medium (driver_of before) (driver_of after) views) seen
               (links_more c medium (driver_of before) (driver_of now) (driver_of after) earlier view (keeps now.nvm.blocks now.numbers room)
               (keeps after.nvm.blocks after.numbers (subst (HasRoom c) (sym adds.room) room)) (so_far.linked medium keeps) whole.lived adds);

@@ -6,3 +6,4 @@ pub mod Beginning
 pub mod Following
 pub mod Bridge
 pub mod Rooms
+pub mod Jobs

@@ -1,4 +1,4 @@
--- One life more behind those of a run so far, and all of them at the end.
+-- One life more after those of a run so far, and all of them at the end.
 use Rattle.std.proofs.Common.{◌≡◌, inl, inr, ⊎_elim, ℕ, ◌+◌, ◌<◌, ◌≤◌, Bool, true, false, cond, List, [], ◌∷◌, ◌++◌, length, drop, reverse, Option, Some, None, refl, sym, ap, subst, arith, ◌∙◌, append_assoc, rules}
 use Rattle.std.specs.Prelude.{◌==◌, All, IfSome, IsSomeAnd, find}
 use Rattle.std.proofs.lemmas.List.{append-nil, length-append}

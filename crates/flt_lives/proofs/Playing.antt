@@ -1,4 +1,4 @@
--- One more step that was carried out, and the life as its parts tell it.
+-- One more step that was carried out, and the life as its parts give it.
 use Rattle.std.proofs.Common.{◌≡◌, ◌∙◌, inl, ℕ, ◌+◌, List, [], ◌∷◌, ◌++◌, All, Some, length, map, take, reverse, refl, ap, sym, subst, arith}
 use Rattle.std.specs.Prelude.{slice_get}
 use Rattle.std.proofs.lemmas.List.{append-nil, append_assoc, length-append, reverse-append, reverse-reverse, length-reverse, map-append}
@@ -50,7 +50,7 @@ reverse_map f [] = refl
 reverse_map f (x ∷ xs) =
     ap (map f) (reverse-append (x ∷ []) xs) ∙ map-append f (reverse xs) (x ∷ []) ∙ ap (λ l. l ++ f x ∷ []) (reverse_map f xs) ∙ sym (reverse-append (f x ∷ []) (map f xs))
 
--- ---- calls of lane 0 behind a journal, of any machine
+-- ---- calls of lane 0 after a journal, of any machine
 
 module _ {S O R : Type 0} (answer : S → List O → O → R) (start : S) where
   abbrev calls_at : List (Entry O) → List O → List (Call O R)
@@ -100,7 +100,7 @@ module _ {S O R : Type 0} (answer : S → List O → O → R) (start : S) where
     -- No step.
     made_none : IsMade MadeBy answer start [] [] [] []
     unfolding HasInOrder
-    made_none = record { blocks = []; made = parts_none MadeBy 1; follows = refl; told = All-nil (BlockTold answer start []); rising = λ number. rise_none 0 [] refl }
+    made_none = record { blocks = []; made = parts_none MadeBy 1; in_order = refl; told = All-nil (BlockTold answer start []); rising = λ number. rise_none 0 [] refl }
 
     -- A step more, which made these calls.
     made_more : (parts : List (PartOf Step)) (own : List Told) (lanes : List (List Told)) (journal : List (Entry O)) (step : Step) (told : Told) (ops : List O) → IsMade MadeBy answer start parts own lanes journal
@@ -114,7 +114,7 @@ module _ {S O R : Type 0} (answer : S → List O → O → R) (start : S) where
           blocks = is.blocks ++ block ∷ [];
           made = subst (λ l. PartsMake MadeBy 1 (parts ++ inl step ∷ []) (own ++ told ∷ []) l (is.blocks ++ block ∷ [])) (append-nil lanes)
               (parts_more MadeBy 1 (1 + widths parts) parts own lanes is.blocks (inl step) (told ∷ []) [] block refl is.made (told, calls, refl, refl, refl, makes));
-          follows = follow_more is.blocks (block ∷ []) journal more is.follows (one_follows block more (mixes_at journal ops));
+          in_order = follow_more is.blocks (block ∷ []) journal more is.in_order (one_follows block more (mixes_at journal ops));
           told = All-append (BlockTold answer start whole) is.blocks (block ∷ [])
               (blocks_longer answer start journal whole is.blocks (more, refl) is.told)
               (All-cons (BlockTold answer start whole) block []
@@ -199,7 +199,7 @@ life_more start parts own lanes journal after step told life carried =
           (queues_none start (reverse journal) (reverse after) (action_of step) told carried);
     }
 
--- A life of lane 0 alone, as it is told.
+-- A life of lane 0 alone, as it is reported.
 abbrev pub alone_view : List (PartOf Step) → Boot → Journal → List Told → LifeView
 alone_view parts boot journal own = record { parts = parts; boot = boot; journal = journal; queue = []; own = own; lanes = [] }
 

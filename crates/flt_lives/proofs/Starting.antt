@@ -95,7 +95,7 @@ module _ (first second : BlocksState) (powers : PowersUpDriver first second) whe
       subst (λ n. ArmsSince n third.device.faults first.device.bench.arms fourth.device.bench.arms) boots
       (subst (λ a. ArmsSince (length third.device.bench.boots) third.device.faults a fourth.device.bench.arms) arms goes.arms)
 
-  -- A power-up, a start-up and the steps behind it are one life more.
+  -- A power-up, a start-up and the steps after it are one life more.
   pub adds_life : (third fourth : BlocksState) → Follows second third → GoesOn third fourth → AddsLife first fourth
   adds_life third fourth follows goes =
       let on = ap (λ (d : BlocksState). d.device.faults) powers.rest in

@@ -12,7 +12,7 @@ use Rattle.flt_life_model.specs.Answers.{Told}
 use Rattle.flt_life_model.specs.declared.answer.StepAnswer.TheVariants as answers
 use Rattle.flt_life_model.specs.Journal.{Journal, entry, calls_of}
 
--- The machine's answer to a call behind these, at its place.
+-- The machine's answer to a call after these, at its place.
 abbrev pub answer_at : Start → Journal → Op → Answer Reply
 answer_at start before op = record { place = length before; reply = answer start (calls_of before) op }
 

@@ -10,11 +10,11 @@ use Rattle.flt_life_model.specs.Parts.{own_actions, own_steps}
 use Rattle.flt_life_model.specs.Played.{dark_answer}
 use Rattle.flt_life_model.specs.Room.{told_in}
 
--- Each step may stand in a lane.
+-- Each step may be in a lane.
 abbrev pub IsLaneSteps : List Step → Type 0
 IsLaneSteps steps = All (λ step. IsTrue (is_lane_step step)) steps
 
--- The answers of a dark life to the steps of lane 0 among these parts, behind the earlier ones; none has a response.
+-- The answers of a dark life to the steps of lane 0 among these parts, after the earlier ones; none has a response.
 pub record AddsDarkAnswers (parts : List (PartOf Step)) (before after : LaneReplies) : Type 0 where
   pub answers : told_in after ≡ told_in before ++ map dark_answer (own_actions parts)
   pub len : vec_len after.answers ≡ vec_len before.answers + length (own_steps parts)

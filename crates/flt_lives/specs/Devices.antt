@@ -29,7 +29,7 @@ pub record AreLivedOn (medium : Medium) (c : Config) (before after : DeviceState
   pub played : ArePlayed c (lives_seen script lives)
   pub ended : AreEnded (length script) (lives_seen script lives)
   pub linked : IsLinked c medium before after (lives_seen script lives)
-  pub given : AreGiven (arms_given (length before.bench.boots) (lives_seen script lives)) before.bench.arms after.bench.arms
+  pub arms_made : AreGiven (arms_given (length before.bench.boots) (lives_seen script lives)) before.bench.arms after.bench.arms
 
 -- A sound image of a device stays sound.
 abbrev pub DeviceStaysSound : Medium → Config → DeviceState → DeviceState → Type 0
@@ -40,7 +40,7 @@ abbrev pub BeginsFrom : DeviceState → DeviceState → List PowerUp → Type 0
 BeginsFrom before after [] = after ≡ before
 BeginsFrom before after (first ∷ later) = first ≡ boot_in before
 
--- At most so many lives were begun over a device: it has the boots that it had, and one more for each of them; where none was begun, it
+-- At most this many lives were begun over a device: it has the boots that it had, and one more for each of them; where none was begun, it
 -- is as it was.
 pub record BeginsLives (most : ℕ) (before after : DeviceState) : Type 0 where
   pub begun : List PowerUp

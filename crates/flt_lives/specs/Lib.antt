@@ -7,3 +7,4 @@ pub mod Linked
 pub mod Media
 pub mod Devices
 pub mod Lives
+pub mod Draining

@@ -14,7 +14,7 @@ use Rattle.flt_life_model.specs.Chain.{LifeView, IsLifeBetween}
 abbrev pub KeepsOn : {B : Type 0} → Ghosts B → Config → Medium → Type 0
 KeepsOn {B = B} b c medium = (driver : B) → (b.state driver).numbers ≡ numbers → HasRoom c (b.state driver).room → IsOn medium (b.state driver)
 
--- An arm that was made in a life with so many boots was made past this count.
+-- An arm that was made in a life with this many boots was made past this count.
 pub record IsPast (boots count : ℕ) (arm : ArmMade) : Type 0 where
   pub later : arm.boots ≡ boots → HasRisenBy 0 count arm.faults
 

@@ -39,17 +39,17 @@ pub record IsLifeFrom (c : Config) (first : Generation) (before after : BlocksSt
   pub caused : (boot : Moment) → HasRisenBy 0 boot.faults before.device.faults → AreCaused c boot (moment_of after) (told_of life)
   pub played : IsPlayed c life
   pub kept : KeepsApplications (moment_of before) (moment_of after) life
-  pub given : WereGiven (all_arms (own_actions life.parts)) before.device.bench.arms after.device.bench.arms
+  pub arms_made : WereGiven (all_arms (own_actions life.parts)) before.device.bench.arms after.device.bench.arms
 
 -- A life from its power-up on, however it began: it was made of its parts, and gave the arms of its steps and no more.
 pub record IsLivedThrough (c : Config) (before after : BlocksState) (life : LifeView) : Type 0 where
   pub lived : IsLived c before after life
   pub played : IsPlayed c life
-  pub given : WereGiven (arms_by life.parts life.boot) before.device.bench.arms after.device.bench.arms
+  pub arms_made : WereGiven (arms_by life.parts life.boot) before.device.bench.arms after.device.bench.arms
   pub adds : AddsLife before after
   pub armed : after.device.bench.armed ≤ before.device.bench.armed + sum_by arms_in life.parts
 
--- What holds even where memory ran out: so many lives were begun at most, and a sound image is still sound.
+-- What holds even where memory ran out: at most this many lives were begun, and a sound image is still sound.
 pub record LeavesSound (c : Config) (most : ℕ) (before after : BlocksState) : Type 0 where
   pub begun : BeginsLives most before.device after.device
   pub sound : StaysSound c (moment_of before) (moment_of after)
@@ -60,7 +60,7 @@ pub record AreLivedThrough {B : Type 0} (b : Ghosts B) {A : Type 0} (c : Config)
   pub linked : (medium : Medium) → KeepsOn b c medium → IsLinked c medium before.device after.device (lives_seen (lists script) lives)
   pub played : ArePlayed c (lives_seen (lists script) lives)
   pub ended : AreEnded (length script) (lives_seen (lists script) lives)
-  pub given : AreGiven (arms_given (length before.device.bench.boots) (lives_seen (lists script) lives)) before.device.bench.arms after.device.bench.arms
+  pub arms_made : AreGiven (arms_given (length before.device.bench.boots) (lives_seen (lists script) lives)) before.device.bench.arms after.device.bench.arms
 
 module _ {B : Type 0} {b : Ghosts B} where
   -- A start-up left the store running with this generation alone.
@@ -68,8 +68,8 @@ module _ {B : Type 0} {b : Ghosts B} where
     pub fits : Fits c first.state
     pub running : IsRunning c first first store
 
-  -- The steps of one life left the store running, and gave at most so many arms.
+  -- The steps of one life left the store running, and gave at most this many arms.
   pub record StaysAlive (c : Config) (most : ℕ) (store now : Store B b) : Type 0 where
     pub alive : IsAlive c now
-    pub goes_on : GoesOn (driver_of store) (driver_of now)
+    pub keeps_driver : GoesOn (driver_of store) (driver_of now)
     pub armed : (driver_of now).device.bench.armed ≤ (driver_of store).device.bench.armed + most

@@ -20,7 +20,7 @@ sectors c = record { value = image_blocks c; damage = image_damage c; is_spent =
 abbrev pub units : Config → Medium
 units c = record { value = value_in numbers; damage = damage_in numbers; is_spent = is_spent_in numbers }
 
--- What a driver over a flash tells of its blocks is what its image says.
+-- What a driver over a flash says of its blocks is what its image says.
 pub is_on_sectors : (c : Config) (used : ℕ) (given : List ℕ) (is_stale has_mounted : Bool) (calls : ℕ) (last_failed : Option ℕ) (flash : FlashState)
     → 4 ≤ used → given ≡ numbers → used - 2 ≡ c.pages - 2
     → IsOn (sectors c) (recounted calls last_failed (on_flash used given is_stale has_mounted flash))
@@ -32,7 +32,7 @@ is_on_sectors c used given is_stale has_mounted calls last_failed flash least gi
       is_spent = λ i. is_last (current (same i) flash.image);
     }
 
--- What a driver over an EEPROM tells of its blocks is what its image says.
+-- What a driver over an EEPROM says of its blocks is what its image says.
 pub is_on_units : (c : Config) (given : List ℕ) (is_stale has_mounted : Bool) (calls : ℕ) (last_failed : Option ℕ) (device : FlashState) → given ≡ numbers
     → IsOn (units c) (recounted calls last_failed (on_eeprom given is_stale has_mounted device))
 is_on_units c given is_stale has_mounted calls last_failed device given_is = record {

@@ -35,20 +35,20 @@ pub record IsPlainStep (c : Config) (action : Action) (device : DeviceState) : T
   pub plain : IsPlain action
   pub arms : device.bench.armed + arm_count action ≤ 64
 
--- A journal has room for so many calls, and a number for the place of each.
+-- A journal has room for this many calls, and a number for the place of each.
 pub record HasCallsLeft {A : Type 0} (count : ℕ) (journal : Vec (Entry Op) A) : Type 0 where
   pub calls : vec_len journal + count ≤ vec_capacity journal
   pub few : vec_len journal < 2 ^ 32
 
--- At most so many calls were written behind those of a journal, in the room that was there.
+-- At most this many calls were written after those of a journal, in the room that was there.
 pub record AddsCalls {A : Type 0} (count : ℕ) (before after : Vec (Entry Op) A) : Type 0 where
   pub calls : vec_len after ≤ vec_len before + count
   pub room : vec_capacity after ≡ vec_capacity before
 
--- Steps of one life gave these arms to the bench of a driver, and no more than so many.
+-- Steps of one life gave these arms to the bench of a driver, and no more than this many.
 pub record GivesArms (arms : List Arm) (most : ℕ) (before after : BlocksState) : Type 0 where
-  pub goes_on : GoesOn before after
-  pub given : WereGiven arms before.device.bench.arms after.device.bench.arms
+  pub keeps_driver : GoesOn before after
+  pub arms_made : WereGiven arms before.device.bench.arms after.device.bench.arms
   pub armed : after.device.bench.armed ≤ before.device.bench.armed + most
 
 -- No call and no answer yet.
@@ -63,16 +63,16 @@ module _ {F : _} {g : _} {B : Type 0} {b : Ghosts B} where
     pub under_way : IsUnderWay c (unit_seen unit)
     pub alive : IsAlive c store
 
-  -- A step was made and has this answer: its calls are behind the others, a life that was living goes on, and each failure has its cause.
+  -- A step was made and has this answer: its calls are after the others, a life that was living goes on, and each failure has its cause.
   pub record AnswersStep {A : Type 0} (c : Config) (action : Action) (unit next_unit : Machine F g) (store next_store : Store B b)
       (before after : Vec (Entry Op) A) (told : Told) : Type 0 where
-    pub carried : (first : Generation) → Stands (start_from c first.state) (calls_of (reverse before.items)) (unit_seen unit)
+    pub calls_and_answer : (first : Generation) → Stands (start_from c first.state) (calls_of (reverse before.items)) (unit_seen unit)
         → IsCarriedOut (start_from c first.state) (reverse before.items) action (reverse after.items) told
     pub living : (first : Generation) (earlier : List Told) → IsLiving c first (reverse before.items) earlier (unit_seen unit) store
         → IsLiving c first (reverse after.items) (with_answer action told earlier) (unit_seen next_unit) next_store
     pub caused : (begun : ℕ) (earlier : List Told) → IsCaused c begun earlier store → IsCaused c begun (with_answer action told earlier) next_store
 
-  -- The same, with the answer behind those of an account.
+  -- The same, with the answer after those of an account.
   pub record TakesStep (c : Config) (action : Action) (unit next_unit : Machine F g) (store next_store : Store B b) (before after : Account) : Type 0 where
     pub last : Told
     pub answers : told_in after.replies ≡ told_in before.replies ++ last ∷ []

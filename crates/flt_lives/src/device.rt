@@ -25,13 +25,13 @@ use std::alloc::Global;
 pub struct Run<D> {
     /// The lives in the order in which they were lived; the last alone may be refused.
     pub lives: Option<Vec<Life>>,
-    /// The device behind the last of them.
+    /// The device after the last of them.
     pub device: D,
 }
 
 /// Lives one after the other over a device, up to the first that is refused, whose steps the engine makes. The device has room for the
 /// blocks of an image, and for a boot of each life; the lives have at most 65,536 steps in all, and whether their parts are possible is
-/// told by `are_possible` of flt_life_model.
+/// checked by `are_possible` of flt_life_model.
 pub fn run_on_device<D: Driver, E: Engine<D> + Drop>(
     alloc: Global,
     engine: E,

@@ -48,7 +48,7 @@ pub trait Driver: Blocks + Drop + Sized {
     fn close(self) -> Self::Device
         ensures { device_of (device_state result) ≡ (Self.state self).device };
 
-    /// What a driver tells of its blocks is what the image of its device says.
+    /// What a driver says of its blocks is what the image of its device says.
     ghost keeps: { (c : Config) → KeepsOn Self.Blocks c (medium c) };
 }
 
@@ -76,7 +76,7 @@ impl<B: Bench + Drop> Driver for Fee<B> {
         self.retire()
     }
 
-    ghost keeps = { λ c driver given room. is_on_sectors c driver.used driver.numbers driver.is_stale driver.has_mounted driver.tally.calls driver.tally.last_failed
+    ghost keeps = { λ c driver given room. is_on_sectors c driver.at.used driver.numbers driver.is_stale driver.has_mounted driver.tally.calls driver.tally.last_failed
         (B.state driver.flash) driver.least given room };
 }
 

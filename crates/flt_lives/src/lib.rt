@@ -1,16 +1,18 @@
 //! Lives: each begins with a power-up and a start-up, and then an engine makes its steps. `Plain` makes those of lane 0 without a
-//! lock; the engine of lanes under the lock stands above.
+//! lock; the engine of lanes under the lock is in a crate above.
 //!
-//! It stands on `flt_store` for the image, on `flt_dcm` for the machine, and on `flt_life_model`, whose definitions its clauses cite.
+//! It depends on `flt_store` for the image, on `flt_dcm` for the machine, and on `flt_life_model`, whose definitions its clauses cite.
 //! The layer above calls `run_on_device` with a `Driver`, over a flash or over an EEPROM; `run_lives` and `run_life` are the same over any
-//! driver of blocks. Memory is taken before the first step of a life, and in none of its steps. Read `Played`, `Chain` and `Lives` of
-//! `flt_life_model` first, then `specs/Devices.antt`.
+//! driver of blocks. Memory is taken before the first step of a life, and in none of its steps. `drain` writes the jobs of a queue that has
+//! no lock, for a layer that makes the steps itself. Read `Played`, `Chain` and `Lives` of `flt_life_model` first, then
+//! `specs/Devices.antt`.
 #![tactic(auto)]
 
 mod account;
 mod buffers;
 mod dark;
 mod device;
+mod draining;
 mod driver;
 mod engine;
 mod lives;
@@ -19,6 +21,7 @@ mod step;
 
 pub use buffers::Buffers;
 pub use device::{Run, run_alone, run_on_device};
+pub use draining::drain;
 pub use driver::Driver;
 pub use engine::{Engine, Lived};
 pub use lives::{run_life, run_lives};

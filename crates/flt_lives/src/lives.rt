@@ -55,7 +55,7 @@ pub fn run_life<D: Blocks + Drop, E: Engine<D> + Drop>(
     requires fit { FitInLife config.now (driver_of store.old).device parts.now }
     ensures same { IfOk result (λ lived. E.machine_config lived.engine ≡ config.now) }
     ensures lived { IfOk result (λ lived. IsLivedThrough config.now (driver_of store.old) (driver_of store.new) (view_of (parts_of parts.now) lived.life)) }
-    ensures left { LeavesSound config.now 1 (driver_of store.old) (driver_of store.new) }
+    ensures stays_sound { LeavesSound config.now 1 (driver_of store.old) (driver_of store.new) }
 {
     let room = LifeRoom::for_parts(alloc, parts)?;
     store.power_up();
@@ -95,7 +95,7 @@ pub fn run_lives<D: Blocks + Drop, E: Engine<D> + Drop>(
     requires room { HasRoom config.now (driver_of store.old).room }
     requires ready { CanLiveOn config.now (driver_of store.old).device lives.now }
     ensures lived { IfOk result (λ lived. AreLivedThrough D.Blocks config.now (driver_of store.old) (driver_of store.new) lives.now lived.items) }
-    ensures left { LeavesSound config.now (length lives.now) (driver_of store.old) (driver_of store.new) }
+    ensures stays_sound { LeavesSound config.now (length lives.now) (driver_of store.old) (driver_of store.new) }
 {
     let mut engine = engine;
     let mut buffers = Buffers::new(config);

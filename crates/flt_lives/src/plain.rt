@@ -22,7 +22,7 @@ use flt_step::{Part, Step};
 use flt_store::Store;
 use std::alloc::{AllocError, Global};
 
-/// Makes a step, and writes its calls and its answer behind those of the steps before it.
+/// Makes a step, and writes its calls and its answer after those of the steps before it.
 fn take_step<D: Blocks + Drop>(
     unit: &mut Unit,
     store: &mut Store<D>,
@@ -83,7 +83,7 @@ fn take_steps<D: Blocks + Drop>(
 /// queue.
 #[derive(Drop)]
 pub struct Plain {
-    /// The status machine, whatever it was told in the lives before.
+    /// The status machine, whatever calls it had in the lives before.
     pub unit: Unit,
 }
 

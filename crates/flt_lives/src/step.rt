@@ -53,7 +53,7 @@ fn take_snapshot(unit: &mut Unit, buffers: &mut Buffers)
     unit.apply_into(&Op::Snapshot, &mut buffers.state, &mut buffers.response);
 }
 
-/// Writes a call of the only lane behind those of a journal.
+/// Writes a call of the only lane after those of a journal.
 fn write(op: Op, journal: &mut Vec<Entry<Op>>)
     requires { vec_len journal.old < vec_capacity journal.old }
     ensures written { reverse journal.new.items ≡ entry 0 op ∷ reverse journal.old.items }
@@ -75,7 +75,7 @@ fn save<D: Blocks + Drop>(
     requires calls { vec_len journal.old + 2 ≤ vec_capacity journal.old }
     ensures ready { AreOnTheirWay config.now unit.new store.new }
     ensures made { AnswersStep config.now actions.Save unit.old unit.new store.old store.new journal.old journal.new (told_with buffers.new.response.items result) }
-    ensures carried { SaveIsCarriedOut (reverse journal.old.items) (reverse journal.new.items) (told_with buffers.new.response.items result) }
+    ensures calls_made { SaveIsCarriedOut (reverse journal.old.items) (reverse journal.new.items) (told_with buffers.new.response.items result) }
     ensures size { response_length result buffers.new.response.items ≡ 0 }
     ensures journal { AddsCalls 2 journal.old journal.new }
     ensures applications { SameApplications (driver_of store.old).value (driver_of store.new).value }
@@ -94,7 +94,7 @@ fn save<D: Blocks + Drop>(
     }
 }
 
-/// Makes a step of a life, writes its calls behind those of the journal, and answers it. Where the answer is a response, its bytes
+/// Makes a step of a life, writes its calls after those of the journal, and answers it. Where the answer is a response, its bytes
 /// are among the buffers.
 pub(crate) fn make_step<D: Blocks + Drop>(
     unit: &mut Unit,

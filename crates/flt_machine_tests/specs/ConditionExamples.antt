@@ -38,7 +38,7 @@ needing = fresh (configured 16 (record (event 0x000001) { needs = 4 } ∷ []))
 abbrev pub begun : History
 begun = Cycle 0 ∷ []
 
--- Calls while it is disabled, newest first: a `show` stands between a report and ticks.
+-- Calls while it is disabled, newest first: a `show` is between a report and ticks.
 abbrev pub while_disabled : History
 while_disabled = Tick 3 ∷ Show 0 ∷ Report 0 Failed ∷ Enable 2 false ∷ []
 

@@ -10,7 +10,7 @@ use Rattle.flt_config.specs.Plain.{plain_event}
 abbrev pub with_lamp : EventCfg
 with_lamp = record (plain_event 1) { indicator = true }
 
--- A state of this status with so many clean cycles, lit or not.
+-- A state of this status with this many clean cycles, lit or not.
 abbrev pub event_state : ℕ → ℕ → Bool → EventState
 event_state status clean lit = record { status = status; failed = 0; clean = clean; lit = lit }
 
@@ -27,7 +27,7 @@ pub record StatesFit : Type 0 where
   pub unlit_warning : ¬ IsStateOf with_lamp (event_state 0x88 2 false)
   pub too_clean : ¬ IsStateOf (plain_event 1) (event_state 0x50 511 false)
 
--- An entry of this event with so many occurrences, whose frames have so many bytes.
+-- An entry of this event with this many occurrences, whose frames have this many bytes.
 abbrev pub event_entry : ℕ → ℕ → ℕ → ℕ → EntryState
 event_entry event occurrence first recent =
     record { event = event; occurrence = occurrence; first = record { items = replicate first 0 }; recent = record { items = replicate recent 0 } }

@@ -27,7 +27,7 @@ use Rattle.flt_life_model.specs.Moment.{Moment}
 use Rattle.flt_life_model.specs.Played.{dark_answer}
 use Rattle.flt_life_model.specs.Saving.{AreRising}
 
--- Numbers that are acknowledged do not leap: behind 7 comes 8, and after a save that failed 9 at most.
+-- Numbers that are acknowledged do not leap: after 7 comes 8, and after a save that failed 9 at most.
 pub record NumbersDoNotLeap : Type 0 where
   pub next : AreRising 7 (answers.Saved 8 ∷ [])
   pub same : ¬ AreRising 7 (answers.Saved 7 ∷ [])
@@ -64,7 +64,7 @@ ReadsDoNotLookAhead = (first : ℕ → Content) (job : Job) →
     GetsBy first (queue.Done 0 true ∷ queue.Take ∷ queue.Post false (job_for 0 job) ∷ []) [] (actions.Get 0) (answers.Bytes job.bytes)
     → holding job.bytes.items ≡ first 512
 
--- A drain does not stop before the 32nd job unless a take finds none; behind the 32nd it takes no more.
+-- A drain does not stop before the 32nd job unless a take finds none; after the 32nd it takes no more.
 pub record DrainsDoNotStopEarly : Type 0 where
   pub early : ¬ IsLastTake 31 []
   pub full : IsLastTake 32 []
@@ -104,7 +104,8 @@ saving_life state = record { parts = []; boot = Started 7 state; journal = journ
 abbrev pub acknowledged : Config → Persist → Generation
 acknowledged c state = record { number = 8; state = saved_after (start_from c state) (ops.Cycle 0 ∷ []) }
 
--- It is the one that was acknowledged last, also behind a dark life. Another one of its number, or of a smaller one, is neither it nor a later one.
+-- It is the one that was acknowledged last, also after a dark life. Another one of its number, or of a smaller one, is neither it nor a
+-- later one.
 pub record LastIsNamed (c : Config) (state : Persist) : Type 0 where
   pub none : last_acknowledged c (dark_life ∷ []) ≡ None
   pub named : last_acknowledged c (saving_life state ∷ []) ≡ Some (acknowledged c state)

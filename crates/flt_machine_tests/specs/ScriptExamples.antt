@@ -14,7 +14,7 @@ use Rattle.flt_script.specs.Numeral.{hexadecimal, number, signed}
 use Rattle.flt_script.specs.Text.{is_plain}
 use Rattle.flt_step.specs.declared.step.Step.TheVariants.{Report}
 
--- A number has 1 to 10 digits, also behind a minus sign, and a plus sign is none.
+-- A number has 1 to 10 digits, also after a minus sign, and a plus sign is none.
 pub record NumbersHaveTenDigits : Type 0 where
   pub none : number [] ≡ None
   pub ten : number (codes "0000032768") ≡ Some 32768
@@ -27,7 +27,7 @@ pub record NumbersHaveTenDigits : Type 0 where
   pub six : hexadecimal 6 (codes "00aF10") ≡ Some 44816
   pub five : hexadecimal 6 (codes "0aF10") ≡ None
 
--- What stands in a line, and what is refused there, of the bytes at the bounds.
+-- What a line may have, and what is refused there, of the bytes at the bounds.
 pub record BytesOfALine : Type 0 where
   pub plain : map is_plain (8 ∷ 9 ∷ 10 ∷ 31 ∷ 32 ∷ 126 ∷ 127 ∷ []) ≡ false ∷ true ∷ false ∷ false ∷ true ∷ true ∷ false ∷ []
   pub strange : map is_strange (8 ∷ 9 ∷ 10 ∷ 31 ∷ 32 ∷ 126 ∷ 127 ∷ []) ≡ true ∷ false ∷ true ∷ true ∷ false ∷ false ∷ true ∷ []
@@ -101,8 +101,8 @@ pub record NumbersOfACounter : Type 0 where
   pub jump_up : is_out (event_line (codes "jumpup 32768")) ≡ true
   pub jump_down : is_out (event_line (codes "jumpdown -32769")) ≡ true
 
--- A load is of configuration 1: 16 events from DTC 000100 on, 16 entries, 512 pages a sector and no application block. The reports are those of
--- a load of nine.
+-- A load is of configuration 1: 16 events from DTC 000100 on, 16 entries, 512 pages a sector and no application block. The reports are
+-- those of a load of nine.
 pub record WorkedLoad : Type 0 where
   pub config : load_config.id ∷ load_config.memory ∷ load_config.pages ∷ load_config.blocks ∷ [] ≡ 1 ∷ 16 ∷ 512 ∷ 0 ∷ []
   pub first : take 1 load_config.events.items ≡ event_of_load 0x000100 ∷ []

@@ -3,8 +3,8 @@
 //! that adds, on threads, the queue of write jobs, and the subscribers of status changes; and of the script, of what a life makes of its
 //! steps, and of the lines of the report.
 //!
-//! It stands on `flt_dcm`, `flt_turn`, `flt_queue`, `flt_notify`, `flt_script`, `flt_life_model` and `flt_report` and has nothing for the crates
-//! above.
+//! It depends on `flt_dcm`, `flt_turn`, `flt_queue`, `flt_notify`, `flt_script`, `flt_life_model` and `flt_report` and has nothing for
+//! the crates above.
 #![tactic(auto)]
 
 #[cfg(test)]

@@ -1,5 +1,5 @@
 //! The status machine, from its configuration to the responses of testers; the ticket lock, the queue, and the subscribers of status
-//! changes: their table, and what they are told; and scripts.
+//! changes: their table, and the changes that are reported to them; and scripts.
 mod comparison;
 mod configurations;
 mod debouncing;

@@ -21,8 +21,8 @@ abbrev pub IsNoAdding : Mark → Type 0
 IsNoAdding Added = ⊥
 IsNoAdding _ = Unit {0}
 
--- Something that holds of marks goes on to hold with one more: an event is added where it has no entry and there is room, or in place of one
--- that has an entry.
+-- Something that holds of marks goes on to hold with one more: an event is added where it has no entry and there is room, or in place
+-- of one that has an entry.
 pub record IsKept (life : Start) (P : Trace → Type 0) : Type 0 where
   pub plain : (event : ℕ) (mark : Mark) (signals : List ℕ) (marks : Trace) → IsNoAdding mark → P marks → P (Of event mark signals ∷ marks)
   pub into_room : (event : ℕ) (signals : List ℕ) (marks : Trace) → is_among event (holders life marks) ≡ false → length (holders life marks) < life.config.memory →

@@ -39,7 +39,7 @@ abbrev pub DisabledEventsAreLeft : Type 0
 DisabledEventsAreLeft = (life : Start) (event : ℕ) (past : History) → is_enabled life event past ≡ false → IsLeftByReportsAndTicks life event past
 
 -- What each of these calls, newest first, has to be: the event is disabled at a report and at ticks, a cycle is that of other
--- events, and a request does not clear the event. All other calls may stand between.
+-- events, and a request does not clear the event. All other calls may come between.
 abbrev pub IsDisabledThrough : Start → ℕ → History → History → Type 0
 IsDisabledThrough life event past [] = Unit {0}
 IsDisabledThrough life event past (ops.Report other report ∷ between) = (is_enabled life event (between ++ past) ≡ false) × IsDisabledThrough life event past between

@@ -249,7 +249,8 @@ UpdateKeepsThePlace =
     ∷ 0x00 ∷ 0x00 ∷ 0x03 ∷ 0x01 ∷ 0x00 ∷ 0x00 ∷ 0x03 ∷ 0x02 ∷ [])
     ∷ [])
 
--- A further failure of a confirmed event is no confirmation; each active signal is its own bit of data identifier 0105; a DTC is compared in all its bytes.
+-- A further failure of a confirmed event is no confirmation; each active signal is its own bit of data identifier 0105; a DTC is
+-- compared in all its bytes.
 abbrev pub ConfirmedOnce : Type 0
 ConfirmedOnce =
     Replays (fresh (configured 16 (recording 0x000001 (did 0x0105 1 ∷ []) ∷ event 0x010001 ∷ [])))

@@ -1,4 +1,4 @@
--- The answer to a call, whatever stands in it for a response.
+-- The answer to a call, whatever it has in the place of a response.
 use Rattle.std.specs.Prelude.{ℕ}
 use Rattle.arrayvec.specs.ArrayVec.{ArrayVec}
 use Rattle.flt_model.specs.declared.call.ReplyOf.{ReplyOf}
@@ -16,7 +16,7 @@ map_reply f (Shown shown) = Shown shown
 map_reply f (Response response) = Response (f response)
 map_reply f Silent = Silent
 
--- What the function tells of a response, or else this.
+-- What the function makes of a response, or else this.
 abbrev pub of_response : {B C : Type 0} → C → (B → C) → ReplyOf B → C
 of_response otherwise f (Response response) = f response
 of_response otherwise f _ = otherwise

@@ -166,7 +166,8 @@ ListsInOrder =
     ∷ Show 0 ⇒ shows 0x2F (pos 127) 1 0 1 false
     ∷ [])
 
--- Silence of 5000 ms ends the extended session, and for good what the tester held in it; a request whose response is suppressed ends the silence.
+-- Silence of 5000 ms ends the extended session, and for good what the tester held in it; a request whose response is suppressed ends
+-- the silence.
 abbrev pub SilenceEndsSessionAndHold : Type 0
 SilenceEndsSessionAndHold =
     Replays (fresh (configured 16 (event 0x000001 ∷ [])))
@@ -183,7 +184,8 @@ SilenceEndsSessionAndHold =
     ∷ fail 0 ⇒ Taken
     ∷ [])
 
--- A mask of several bits selects the DTCs whose status has one of them; a snapshot record without data identifiers has its number and the count 0.
+-- A mask of several bits selects the DTCs whose status has one of them; a snapshot record without data identifiers has its number and
+-- the count 0.
 abbrev pub MaskOfSeveralBits : Type 0
 MaskOfSeveralBits =
     Replays (fresh (configured 16 (event 0x000001 ∷ event 0x000002 ∷ [])))

@@ -259,7 +259,8 @@ UnconfirmedEntryAges =
     ∷ Show 0 ⇒ shows 0x60 (pos 0) 0 1 0 false
     ∷ [])
 
--- A displaced event whose failed count is above its threshold is confirmed again by a failure, but gets no entry, since its testFailed did not change.
+-- A displaced event whose failed count is above its threshold is confirmed again by a failure, but gets no entry, since its testFailed
+-- did not change.
 abbrev pub ConfirmedAnew : Type 0
 ConfirmedAnew =
     Replays (fresh (configured 1 (record (event 0x000001) { priority = 5 } ∷ event 0x000002 ∷ [])))

@@ -1,6 +1,6 @@
 //! The meaning of the status machine of a fault memory: definitions, the types that they use, and laws about them.
 //!
-//! It stands on `flt_config`, whose types and ranges the definitions cite. Every crate of the status machine
+//! It depends on `flt_config`, whose types and ranges the definitions cite. Every crate of the status machine
 //! is proved against `specs/Answer` (the answer to a call after a list of calls) and
 //! `specs/Durable` (what is saved after it); no other crate states a rule of the machine. Read `specs/Start`,
 //! `specs/Mark` and `specs/Status` first; `docs/MODEL.md` describes the machine in plain words.

@@ -1,6 +1,6 @@
 //! What a tester's request asks for (ISO 14229-1).
 
-/// What is asked for. A DTC has three bytes; 0xFFFFFF stands for all of them.
+/// What is asked for. A DTC has three bytes; 0xFFFFFF means all of them.
 #[derive(Clone, Copy, PartialEq, Eq, Debug)]
 pub enum Request {
     /// Service 0x10: another diagnostic session, the default one (0x01) or the extended one (0x03).

@@ -1,4 +1,4 @@
--- The values of all kinds, told change by change, are those of each kind by itself.
+-- The values of all kinds, taken change by change, are those of each kind by itself.
 use Rattle.std.proofs.Common.{◌≡◌, ◌∙◌, ℕ, zero, suc, arith, List, [], ◌∷◌, inl, inr, nat_eq, length, refl, sym, ap}
 use Rattle.std.proofs.lemmas.Bool.{cases_Bool}
 use Rattle.std.specs.Prelude.{slice_set, replicate, slice_index_or, ◌≤◌, ◌<◌, ◌^◌, fold}

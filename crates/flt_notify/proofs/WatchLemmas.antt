@@ -1,4 +1,4 @@
--- A watched machine goes on standing for its base and calls when a call's changes are told.
+-- A watched machine goes on standing for its base and calls when a call's changes are reported.
 use Rattle.std.proofs.Common.{◌≡◌, ◌∙◌, ℕ, ◌+◌, ◌-◌, ◌^◌, List, ◌∷◌, min, arith, ap}
 use Rattle.std.specs.Prelude.{fold}
 use Rattle.flt_model.specs.Start.{Start, History}

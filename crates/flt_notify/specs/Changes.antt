@@ -21,7 +21,7 @@ changes_from place event (before ∷ befores) (after ∷ afters) =
     else record { place = place; event = event; before = before; after = after } ∷ changes_from place (suc event) befores afters
 changes_from place event _ _ = []
 
--- The changes of the last call, behind these.
+-- The changes of the last call, after these.
 abbrev pub changes_of_call : Start → History → History → List Change
 changes_of_call life past now = changes_from (length past) 0 (statuses_after life past) (statuses_after life now)
 

@@ -30,7 +30,7 @@ abbrev pub IsAnswerTo : {F : _} {g : _} → List (Option (Row F g)) → ℕ → 
 IsAnswerTo {F} {g} rows kind value change answer =
     (row : Row F g) → row_of rows kind ≡ Some row → (told : Bor Change) × (told.now ≡ change) × g.post row.call (value, (told, tt)) answer
 
--- The values of the kinds from a number on, before and after a change of which each subscriber was told.
+-- The values of the kinds from a number on, before and after a change that was reported to each subscriber.
 abbrev pub AreAnswersTo : {F : _} {g : _} → List (Option (Row F g)) → ℕ → List ℕ → Change → List ℕ → Type 0
 AreAnswersTo rows kind [] change [] = Unit {0}
 AreAnswersTo rows kind (value ∷ values) change (answer ∷ answers) = IsAnswerTo rows kind value change answer × AreAnswersTo rows (suc kind) values change answers

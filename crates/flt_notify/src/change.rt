@@ -1,6 +1,7 @@
 //! A change of a status byte.
 
-/// A call of the status machine changed the status byte of an event (AUTOSAR Dem, in outline: the callback on a change of an event's status).
+/// A call of the status machine changed the status byte of an event (AUTOSAR Dem, in outline: the callback on a change of an event's
+/// status).
 #[derive(Clone, Copy, PartialEq, Eq, Debug)]
 pub struct Change {
     /// The place of the call in the journal, from 0.

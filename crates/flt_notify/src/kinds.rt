@@ -33,7 +33,7 @@ pub fn note_1(v: u64, c: &Change) -> u64
     word(c)
 }
 
-/// Kind 2 is a checksum of all changes, which tells their order too: 31 times the value and the change, modulo 2^32.
+/// Kind 2 is a checksum of all changes, which depends on their order too: 31 times the value and the change, modulo 2^32.
 pub fn note_2(v: u64, c: &Change) -> u64
     requires { v < 2 ^ 32 }
     ensures { result ≡ next_value 2 v c.now }

@@ -1,6 +1,6 @@
-//! Subscribers of status changes: stored functions that are told, under the lock, each change of an event's status byte.
+//! Subscribers of status changes: stored functions that are called, under the lock, with each change of an event's status byte.
 //!
-//! Stands on `flt_shared`, whose machine it watches. The functions lie beside the lock, as those of data identifiers do, and their
+//! It depends on `flt_shared`, whose machine it watches. The functions lie beside the lock, as those of data identifiers do, and their
 //! values, which are state, lie in the machine under it. The layer above puts `Watched` under a lock of `flt_turn`: whenever it stands
 //! for a base and some calls, each value is that of the changes which these calls make. Read `specs/Changes` and `specs/Value` first.
 #![tactic(auto)]

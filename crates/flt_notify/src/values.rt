@@ -69,7 +69,7 @@ impl Values {
         ];
     }
 
-    /// Tells each subscriber each change of a call at a place of the journal, in the order of the events' numbers.
+    /// Reports each change of a call at a place of the journal to each subscriber, in the order of the events' numbers.
     pub(crate) fn tell_changes<const ROWS: usize>(
         &mut self,
         subscribers: &Subscribers<ROWS>,

@@ -33,7 +33,7 @@ pub struct Lent {
     pub subscribers: Subscribers<KINDS>,
 }
 
-/// The status machine without its functions, and the values of the subscribers: each change of a status byte is told in the step that
+/// The status machine without its functions, and the values of the subscribers: each change of a status byte is reported in the step that
 /// makes it.
 #[derive(Drop)]
 pub struct Watched {
@@ -103,7 +103,7 @@ impl Watched {
         )
     }
 
-    /// Ends a step: tells the changes since the status bytes were these, and counts the call.
+    /// Ends a step: reports the changes since the status bytes were these, and counts the call.
     fn tell(&mut self, subscribers: &Subscribers<KINDS>, before: &[u8])
         requires one_each { length before.now ≡ length (watched_unit self.old).dem.durable.config.events.items }
         ensures unit { self.new.guarded ≡ self.old.guarded }

@@ -1,4 +1,4 @@
--- A job of so many tries makes so many calls of the driver.
+-- A job of a number of tries makes that number of calls of the driver.
 use Rattle.std.proofs.Common.{ℕ, zero, suc, Result, inl, inr, arith}
 use Rattle.flt_flash.specs.Blocks.{BlocksState}
 use Rattle.flt_flash.specs.Calls.{CountsCall}

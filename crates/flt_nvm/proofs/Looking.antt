@@ -23,7 +23,7 @@ module _ (before after : BlocksState) where
   reads_ok : {S T : Type 0} (x : S) (y : T) → ReadsAlone before after (Ok x) → ReadsAlone before after (Ok y)
   reads_ok x y reads = record {
     values = reads.values;
-    calls = record { follows = reads.calls.follows; flash = λ is. absurd (no_fault y Flash is); damaged = λ sector page is. absurd (no_fault y (Damaged sector page) is); refuses_damage = reads.calls.refuses_damage };
+    calls = record { keeps_driver = reads.calls.keeps_driver; flash = λ is. absurd (no_fault y Flash is); damaged = λ sector page is. absurd (no_fault y (Damaged sector page) is); refuses_damage = reads.calls.refuses_damage };
     never_full = record { full = λ live needed. no_fault y (Full live needed); spent = no_fault y SequenceSpent };
     spent = reads.spent;
     settled = reads.settled;
@@ -35,7 +35,7 @@ module _ (before after : BlocksState) where
   reads_err S T fault reads = record {
     values = reads.values;
     calls = record {
-      follows = reads.calls.follows;
+      keeps_driver = reads.calls.keeps_driver;
       flash = λ is. reads.calls.flash (same_fault S T fault Flash is);
       damaged = λ sector page is. reads.calls.damaged sector page (same_fault S T fault (Damaged sector page) is);
       refuses_damage = reads.calls.refuses_damage;

@@ -1,4 +1,4 @@
--- The rows up to the last redundant one tell whether a block is redundant.
+-- The rows up to the last redundant one say whether a block is redundant.
 use Rattle.std.proofs.Common.{◌≡◌, ◌↔◌, ◌==◌, ℕ, zero, suc, Bool, true, false, List, [], ◌∷◌, take, refl, arith}
 use Rattle.flt_nvm.specs.declared.table.BlockCfg.{BlockCfg}
 use Rattle.flt_nvm.specs.Table.{IsRedundant, NoneFrom}

@@ -11,7 +11,7 @@ use Rattle.flt_nvm.specs.declared.table.Kind.TheVariants.{Native, Redundant, Dat
 use Rattle.flt_nvm.specs.declared.table.BlockCfg.{BlockCfg}
 use Rattle.flt_nvm.specs.Table.{driver_number, block_in, numbers_taken, has_number, is_kind, is_served, serves, HasPlace, FitsBlock}
 
--- A block that is found stands in the table, under this identifier.
+-- A block that is found is in the table, under this identifier.
 found_is_served : (numbers : List ℕ) (table : List BlockCfg) (id : ℕ) (block : BlockCfg) → serves numbers table ≡ true → block_in table id ≡ Some block → (is_served numbers block ≡ true) × (block.id ≡ id)
 found_is_served numbers [] id block all found = absurd (cc found)
 found_is_served numbers (first ∷ rest) id block all found =

@@ -64,7 +64,7 @@ pub record ReadsNumber (copy number : ℕ) (before after : BlocksState) (out_bef
 -- Reads that change no block, as those of `ReadsAlone`, but for the cause of Flash.
 pub record OnlyLooks {T : Type 0} (before after : BlocksState) (result : Result T BlockFault) : Type 0 where
   pub values : SameValues before after
-  pub follows : Follows before after
+  pub keeps_driver : Follows before after
   pub damaged : (sector page : ℕ) → IsErrOf result (Damaged sector page) → (before.damage ≡ Some (sector, page)) × IsFalse before.has_mounted
   pub refuses_damage : OnOk result (before.damage ≡ None)
   pub never_full : NeverFull result

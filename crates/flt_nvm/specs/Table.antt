@@ -49,7 +49,7 @@ serves numbers table = list_all (is_served numbers) table
 abbrev pub HasIndex : List BlockCfg → ℕ → ℕ → Type 0
 HasIndex table id index = IsSomeAnd (block_in table id) (λ block. index < indices_of block.kind)
 
--- The table has a block of this identifier that holds so many bytes.
+-- The table has a block of this identifier that holds this many bytes.
 abbrev pub FitsBlock : List BlockCfg → ℕ → ℕ → Type 0
 FitsBlock table id size = IsSomeAnd (block_in table id) (λ block. size ≤ block.length)
 

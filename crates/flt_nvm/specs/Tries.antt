@@ -7,7 +7,7 @@ use Rattle.flt_flash.specs.Calls.{BlockCalls, CountsCallOf, CountsMount, Changes
 use Rattle.flt_flash.specs.declared.blocks.BlockFault.{BlockFault}
 use Rattle.flt_flash.specs.declared.blocks.BlockFault.TheVariants.{Flash}
 
--- A job of at most so many tries: the last one, or one that the flash did not fail, or one that it failed and then a job of one try less.
+-- A job of at most this many tries: the last one, or one that the flash did not fail, or one that it failed and then a job of one try less.
 unfoldable pub Tries : {T : Type 0} → ℕ → (BlocksState → BlocksState → Result T BlockFault → Type 0) → BlocksState → BlocksState → Result T BlockFault → Type 0
 Tries zero try before after result = ⊥
 Tries (suc zero) try before after result = try before after result
@@ -39,7 +39,7 @@ pub record Looks {T : Type 0} (block : ℕ) (before after : BlocksState) (result
   pub once : CountsCallOf block before after result
   pub costs : ReadCosts before after block
 
--- The driver counted one call at least, and so many at most.
+-- The driver counted one call at least, and this many at most.
 pub record CallsAtMost (limit : ℕ) (before after : BlocksState) : Type 0 where
   pub least : HasRisenBy 1 before.calls after.calls
   pub most : after.calls ≤ before.calls + limit

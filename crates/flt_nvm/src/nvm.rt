@@ -14,7 +14,7 @@ use flt_flash::{Arm, BlockFault, Blocks, Found};
 pub struct Nvm<B: Blocks + Drop> {
     blocks: B,
     table: Vec<BlockCfg>,
-    /// How many rows the table has up to its last redundant one, so that no more are looked at to tell which blocks are redundant.
+    /// How many rows the table has up to its last redundant one, so that no more are looked at to find which blocks are redundant.
     redundant_rows: usize,
     ghost served: { IsTrue (serves (B.state blocks).numbers table.items) },
     ghost within: { redundant_rows ≤ length table.items },
@@ -252,7 +252,7 @@ impl<B: Blocks + Drop> Nvm<B> {
         self.blocks.boots_left()
     }
 
-    /// How many arms stand, 64 at most.
+    /// How many arms remain, 64 at most.
     pub fn armed(&self) -> u8
         ensures { result ≡ (driver_of self.now).device.bench.armed }
     {

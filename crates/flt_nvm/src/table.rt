@@ -9,7 +9,7 @@ pub enum Kind {
     Native,
     /// Two copies of the same bytes, 1 and 2.
     Redundant,
-    /// So many blocks of one length, 1 to 8, each under an index of its own.
+    /// This many blocks of one length, 1 to 8, each under an index of its own.
     Dataset(u8),
 }
 

@@ -15,7 +15,7 @@ use Rattle.flt_pages.specs.Blank.{AreBlank}
 use Rattle.flt_pages.proofs.TornGates.{torn_gates}
 use Rattle.flt_pages.proofs.Begun.{unspoiled_blank, not_valid, valid}
 
--- The pages of a sector, of which the start gate of a number stands.
+-- The pages of a sector, which has the start gate of a number.
 module _ (used sequence : ℕ) (fits : used < 2 ^ 16) (counts : sequence < 2 ^ 32) (pages : List (List ℕ)) (room : 1 < length pages) (stands : get_or pages 0 [] ≡ sealed (word_bytes (Start sequence used))) where
   first_page : (page : List ℕ) → get_or (set pages 1 page) 0 [] ≡ sealed (word_bytes (Start sequence used))
   first_page page = get_or-set_other pages 1 0 page [] (omega arith) ∙ stands
@@ -82,7 +82,7 @@ module _ (used sequence : ℕ) (least : 2 ≤ used) (fits : used < 2 ^ 16) (coun
         (ap unsealed (later_page code.torn 1 (omega arith) (omega arith)) ∙ unsealed_blank));
   }
 
-  -- The start gate stands, and all behind it is blank.
+  -- The start gate is there, and all after it is blank.
   pub record IsBegun (middle : FlashState) (pages : List (List ℕ)) : Type 0 where
     pub image : middle.image ≡ set before.image sector pages
     pub size : length pages ≡ length (sector_at before.image sector)

@@ -129,7 +129,7 @@ module _ (before : FlashState) (shape : HasShape before) (sector other page bloc
     copy_fill_failed after failed result fails is =
         fill_failed before shape other page block source place.valid in_other room_source blank_source middle shape_middle (head_of middle (Ok tt) headed) after failed result fails (fills_of after (Err failed) is)
 
-    -- The pages behind the head are blank, and the page of the gate still is once the bytes are there.
+    -- The pages after the head are blank, and the page of the gate still is once the bytes are there.
     pub copy_blank : AreBlank (sector_at middle.image other) (page + 1) (page + 1 + byte_pages place.length)
     copy_blank =
         subst (λ n. AreBlank (sector_at middle.image other) (page + 1) (page + 1 + byte_pages n)) size

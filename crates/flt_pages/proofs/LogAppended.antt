@@ -24,7 +24,7 @@ module _ (used : ℕ) (numbers : List ℕ) (pages after : List (List ℕ)) (end 
   still_blank : (to : ℕ) → end ≤ to → KeptApart pages after end to → AreBlank after to used
   still_blank to past apart k low high = apart.behind k low ∙ blank_behind used numbers pages after holds.entries end begins holds.is (λ j low lt. apart.before j lt) k (omega arith) high
 
-  -- The records that stood.
+  -- The records that were there.
   kept : (to : ℕ) → KeptApart pages after end to → (block : ℕ) → content_of after (last_complete block holds.entries) ≡ value block
   kept to apart block =
       same_content pages after end apart.size (λ j low lt. apart.before j lt) block holds.entries (all_below used numbers pages after holds.entries end begins holds.is (λ j low lt. apart.before j lt))

@@ -30,7 +30,7 @@ record Resumes (used : ℕ) (numbers : List ℕ) (pages after : List (List ℕ))
   pub below : AllBelow end entries
 
 module _ (used : ℕ) (numbers : List ℕ) (pages after : List (List ℕ)) where
-  -- Behind an item that is not the end.
+  -- After an item that is not the end.
   behind : (left page : ℕ) (entries : List Entry) (end : ℕ) (item : Item) → page < end → page + item_pages item ≤ end → ((k : ℕ) → page ≤ k → k < end → get_or after k [] ≡ get_or pages k [])
       → item_at used numbers pages page ≡ Ok item → log_from used numbers after page (suc left) ≡ log_after used after page (λ next. log_from used numbers after next left) (Ok item)
   unfolding log_from

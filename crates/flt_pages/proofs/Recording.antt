@@ -92,7 +92,7 @@ module _ (before : FlashState) (shape : HasShape before) (sector page block : �
     opened : IsOpen pages (sector_at middle.image sector) page block (length bytes) valid
     opened = subst (λ (p : List (List ℕ)). IsOpen pages p page block (length bytes) valid) (sym (pages_on before middle sector (set pages page head) shape within on_head)) (head_stands pages page block bytes valid fits blank)
 
-    -- The pages behind the head are blank, and the page of the gate still is once the bytes are there.
+    -- The pages after the head are blank, and the page of the gate still is once the bytes are there.
     head_kept : (k : ℕ) → page < k → k < page + 2 + byte_pages (length bytes) → get_or (sector_at middle.image sector) k [] ≡ blank_page
     head_kept k more less =
         ap (λ (p : List (List ℕ)). get_or p k []) (pages_on before middle sector (set pages page head) shape within on_head)

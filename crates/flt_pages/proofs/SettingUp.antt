@@ -49,7 +49,7 @@ module _ (used : ℕ) (least : 4 ≤ used) (fits : used < 2 ^ 16) (before : Flas
       let left = begin_left used 1 (omega arith) fits (omega arith) before shape 0 (omega arith) most after None both.0 torn in
       ap (current used) left.image ∙ current_is left.pages None (⊎_elim (λ same. same ∙ both.0) (λ gone. gone) left.gates)
 
-  -- The start gate stands.
+  -- The start gate is there.
   module _ (middle : FlashState) (begun : middle.image ≡ programmed (erased before.image 0) 0 0 start) where
     abbrev pages : List (List ℕ)
     pages = set (replicate (length (sector_at before.image 0)) blank_page) 0 start

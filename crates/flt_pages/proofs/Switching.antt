@@ -17,7 +17,9 @@ use Rattle.flt_pages.specs.Append.{TornCode, TornErase, Appends}
 use Rattle.flt_pages.specs.Blank.{AreBlank}
 use Rattle.flt_pages.specs.LogHolds.{LogHolds, StandsAt}
 use Rattle.flt_pages.specs.Live.{held_in}
+use Rattle.flt_pages.specs.Told.{current_of}
 use Rattle.flt_pages.specs.Recorded.{OnSector}
+use Rattle.flt_pages.specs.declared.current.CurrentSector.{CurrentSector}
 use Rattle.flt_pages.specs.declared.place.RecordPlace.{RecordPlace}
 use Rattle.flt_pages.specs.RecordPlace.{TellsPlaces}
 use Rattle.flt_pages.proofs.Telling.{still_tells}
@@ -106,129 +108,126 @@ module _ (used : ℕ) (image : List (List (List ℕ))) (two : length image ≡ 2
   other_fine (suc (suc sector)) within is = absurd (omega arith)
 
 -- A switch.
-module _ (used : ℕ) (numbers : List ℕ) (before : FlashState) (shape : HasShape before) (sector sequence : ℕ) (in_sector : sector < 2) (least : 4 ≤ used) (fits : used < 2 ^ 16) (most : used ≤ before.pages)
-    (now : current used before.image ≡ Ok (Some record { sector = sector; sequence = sequence })) (fine : (log used numbers (sector_at before.image sector)).fault ≡ None) (next : sequence + 1 < 2 ^ 32) where
-  abbrev other : ℕ
-  other = 1 - sector
-
+module _ (at : CurrentSector) (numbers : List ℕ) (before : FlashState) (shape : HasShape before) (least : 4 ≤ at.used) (fits : at.used < 2 ^ 16) (most : at.used ≤ before.pages)
+    (now : current at.used before.image ≡ Ok (Some (current_of at))) (fine : (log at.used numbers (sector_at before.image at.sector)).fault ≡ None) (next : at.sequence + 1 < 2 ^ 32) where
   abbrev value : ℕ → Content
-  value = held_in used numbers (sector_at before.image sector)
+  value = held_in at.used numbers (sector_at before.image at.sector)
 
   abbrev start : List ℕ
-  start = sealed (word_bytes (Start (sequence + 1) used))
+  start = sealed (word_bytes (Start (at.sequence + 1) at.used))
 
   abbrev active : List ℕ
-  active = sealed (word_bytes (Active (sequence + 1)))
+  active = sealed (word_bytes (Active (at.sequence + 1)))
 
-  in_other : 1 - sector < 2
+  in_other : 1 - at.sector < 2
   in_other = omega arith
 
-  apart : sector ≢ 1 - sector
-  apart e = omega (arith, e, in_sector)
+  apart : at.sector ≢ 1 - at.sector
+  apart e = omega (arith, e, at.one_of_two)
 
-  holds_now : LogHolds used numbers (sector_at before.image sector) (log used numbers (sector_at before.image sector)).end (held_in used numbers (sector_at before.image sector))
+  holds_now : LogHolds at.used numbers (sector_at before.image at.sector) (log at.used numbers (sector_at before.image at.sector)).end (held_in at.used numbers (sector_at before.image at.sector))
   holds_now = record {
-    entries = (log used numbers (sector_at before.image sector)).entries;
-    is = λ i. record { entries = (log used numbers (sector_at before.image sector)).entries; end = (log used numbers (sector_at before.image sector)).end; fault = fine i };
+    entries = (log at.used numbers (sector_at before.image at.sector)).entries;
+    is = λ i. record { entries = (log at.used numbers (sector_at before.image at.sector)).entries; end = (log at.used numbers (sector_at before.image at.sector)).end; fault = fine i };
     gives = λ block. refl;
   }
 
-  -- Whatever stands in the other sector, while it is not valid or as valid as it was.
-  pub keeps_old : (after : List (List (List ℕ))) (pages : List (List ℕ)) → after ≡ set before.image (1 - sector) pages
-      → (gates_of used pages ≡ gates_of used (sector_at before.image (1 - sector))) ⊎ (gates_of used pages ≡ Ok None) → GivesValues used numbers after (held_in used numbers (sector_at before.image sector))
+  -- Whatever is in the other sector, while it is not valid or as valid as it was.
+  pub keeps_old : (after : List (List (List ℕ))) (pages : List (List ℕ)) → after ≡ set before.image (1 - at.sector) pages
+      → (gates_of at.used pages ≡ gates_of at.used (sector_at before.image (1 - at.sector))) ⊎ (gates_of at.used pages ≡ Ok None) → GivesValues at.used numbers after (held_in at.used numbers (sector_at before.image at.sector))
   keeps_old after pages is gates =
-      let same = ap (λ (image : List (List (List ℕ))). sector_at image sector) is ∙ get_or-set_other before.image other sector pages [] apart in
+      let same = ap (λ (image : List (List (List ℕ))). sector_at image at.sector) is ∙ get_or-set_other before.image (1 - at.sector) at.sector pages [] apart in
       record {
-        sector = sector;
-        sequence = sequence;
-        end = (log used numbers (sector_at before.image sector)).end;
+        sector = at.sector;
+        sequence = at.sequence;
+        end = (log at.used numbers (sector_at before.image at.sector)).end;
         stands = record {
-          current = ap (current used) is ∙ current_stays used before.image shape.sectors sequence pages sector in_sector now gates;
-          holds = subst (λ (p : List (List ℕ)). LogHolds used numbers p (log used numbers (sector_at before.image sector)).end (held_in used numbers (sector_at before.image sector))) (sym same) holds_now;
+          current = ap (current at.used) is ∙ current_stays at.used before.image shape.sectors at.sequence pages at.sector at.one_of_two now gates;
+          holds = subst (λ (p : List (List ℕ)). LogHolds at.used numbers p (log at.used numbers (sector_at before.image at.sector)).end (held_in at.used numbers (sector_at before.image at.sector))) (sym same) holds_now;
         };
       }
 
-  pub switch_unbegun : (after : FlashState) → TornErase before.image (1 - sector) after.image ⊎ TornCode (erased before.image (1 - sector)) (1 - sector) 0 start after.image
-      → GivesValues used numbers after.image (held_in used numbers (sector_at before.image sector))
+  pub switch_unbegun : (after : FlashState) → TornErase before.image (1 - at.sector) after.image ⊎ TornCode (erased before.image (1 - at.sector)) (1 - at.sector) 0 start after.image
+      → GivesValues at.used numbers after.image (held_in at.used numbers (sector_at before.image at.sector))
   switch_unbegun after torn =
-      let fine_there = other_fine used before.image shape.sectors sequence [] sector in_sector now in
-      let left = begin_left used (sequence + 1) (omega arith) fits next before shape (1 - sector) in_other most after fine_there.0 fine_there.1 torn in
+      let fine_there = other_fine at.used before.image shape.sectors at.sequence [] at.sector at.one_of_two now in
+      let left = begin_left at.used (at.sequence + 1) (omega arith) fits next before shape (1 - at.sector) in_other most after fine_there.0 fine_there.1 torn in
       keeps_old after.image left.pages left.image left.gates
 
-  -- The other sector is begun.
-  module _ (middle : FlashState) (shape_middle : HasShape middle) (begun : middle.image ≡ programmed (erased before.image (1 - sector)) (1 - sector) 0 start) where
+  -- The (1 - at.sector) at.sector is begun.
+  module _ (middle : FlashState) (shape_middle : HasShape middle) (begun : middle.image ≡ programmed (erased before.image (1 - at.sector)) (1 - at.sector) 0 start) where
     abbrev first_pages : List (List ℕ)
-    first_pages = set (replicate (length (sector_at before.image (1 - sector))) blank_page) 0 start
+    first_pages = set (replicate (length (sector_at before.image (1 - at.sector))) blank_page) 0 start
 
-    middle_image : middle.image ≡ set before.image (1 - sector) (set (replicate (length (sector_at before.image (1 - sector))) blank_page) 0 (sealed (word_bytes (Start (sequence + 1) used))))
-    middle_image = (is_begun used (sequence + 1) (omega arith) fits next before shape (1 - sector) in_other most middle begun).image
+    middle_image : middle.image ≡ set before.image (1 - at.sector) (set (replicate (length (sector_at before.image (1 - at.sector))) blank_page) 0 (sealed (word_bytes (Start (at.sequence + 1) at.used))))
+    middle_image = (is_begun at.used (at.sequence + 1) (omega arith) fits next before shape (1 - at.sector) in_other most middle begun).image
 
-    middle_pages : sector_at middle.image (1 - sector) ≡ set (replicate (length (sector_at before.image (1 - sector))) blank_page) 0 (sealed (word_bytes (Start (sequence + 1) used)))
-    middle_pages = ap (λ (image : List (List (List ℕ))). sector_at image (1 - sector)) middle_image ∙ get_or-set_same before.image (1 - sector) first_pages [] (omega (arith, shape.sectors, in_other))
+    middle_pages : sector_at middle.image (1 - at.sector) ≡ set (replicate (length (sector_at before.image (1 - at.sector))) blank_page) 0 (sealed (word_bytes (Start (at.sequence + 1) at.used)))
+    middle_pages = ap (λ (image : List (List (List ℕ))). sector_at image (1 - at.sector)) middle_image ∙ get_or-set_same before.image (1 - at.sector) first_pages [] (omega (arith, shape.sectors, in_other))
 
-    pub source_stays : sector_at middle.image sector ≡ sector_at before.image sector
-    source_stays = ap (λ (image : List (List (List ℕ))). sector_at image sector) middle_image ∙ get_or-set_other before.image (1 - sector) sector first_pages [] apart
+    pub source_stays : sector_at middle.image at.sector ≡ sector_at before.image at.sector
+    source_stays = ap (λ (image : List (List (List ℕ))). sector_at image at.sector) middle_image ∙ get_or-set_other before.image (1 - at.sector) at.sector first_pages [] apart
 
-    pub begun_blank : AreBlank (sector_at middle.image (1 - sector)) 2 used
+    pub begun_blank : AreBlank (sector_at middle.image (1 - at.sector)) 2 at.used
     begun_blank k low high =
         ap (λ (p : List (List ℕ)). get_or p k []) middle_pages
-        ∙ (is_begun used (sequence + 1) (omega arith) fits next before shape (1 - sector) in_other most middle begun).blank k (omega arith) high
+        ∙ (is_begun at.used (at.sequence + 1) (omega arith) fits next before shape (1 - at.sector) in_other most middle begun).blank k (omega arith) high
 
     -- The records are copied, or some of them.
-    module _ (full : FlashState) (pages : List (List ℕ)) (on : OnSector middle full (1 - sector) pages) (gates : KeepsGates (sector_at middle.image (1 - sector)) pages) where
-      full_image : full.image ≡ set before.image (1 - sector) pages
-      full_image = on.image ∙ ap (λ (image : List (List (List ℕ))). set image (1 - sector) pages) middle_image ∙ set-set before.image (1 - sector) first_pages pages
+    module _ (full : FlashState) (pages : List (List ℕ)) (on : OnSector middle full (1 - at.sector) pages) (gates : KeepsGates (sector_at middle.image (1 - at.sector)) pages) where
+      full_image : full.image ≡ set before.image (1 - at.sector) pages
+      full_image = on.image ∙ ap (λ (image : List (List (List ℕ))). set image (1 - at.sector) pages) middle_image ∙ set-set before.image (1 - at.sector) first_pages pages
 
-      stands : get_or pages 0 [] ≡ sealed (word_bytes (Start (sequence + 1) used))
+      stands : get_or pages 0 [] ≡ sealed (word_bytes (Start (at.sequence + 1) at.used))
       stands = gates.before 0 (omega arith) ∙ ap (λ (p : List (List ℕ)). get_or p 0 []) middle_pages
-          ∙ (is_begun used (sequence + 1) (omega arith) fits next before shape (1 - sector) in_other most middle begun).stands
+          ∙ (is_begun at.used (at.sequence + 1) (omega arith) fits next before shape (1 - at.sector) in_other most middle begun).stands
 
       blank : get_or pages 1 [] ≡ blank_page
       blank = gates.before 1 (omega arith) ∙ ap (λ (p : List (List ℕ)). get_or p 1 []) middle_pages
-          ∙ (is_begun used (sequence + 1) (omega arith) fits next before shape (1 - sector) in_other most middle begun).blank 1 (omega arith) (omega arith)
+          ∙ (is_begun at.used (at.sequence + 1) (omega arith) fits next before shape (1 - at.sector) in_other most middle begun).blank 1 (omega arith) (omega arith)
 
       room : 1 < length pages
-      room = omega (arith, gates.size, ap length middle_pages, (is_begun used (sequence + 1) (omega arith) fits next before shape (1 - sector) in_other most middle begun).size, shape.pages (1 - sector) in_other)
+      room = omega (arith, gates.size, ap length middle_pages, (is_begun at.used (at.sequence + 1) (omega arith) fits next before shape (1 - at.sector) in_other most middle begun).size, shape.pages (1 - at.sector) in_other)
 
-      pub keeps_inactive : GivesValues used numbers full.image (held_in used numbers (sector_at before.image sector))
-      keeps_inactive = keeps_old full.image pages full_image (inr (start_alone used (sequence + 1) fits next pages room stands blank))
+      pub keeps_inactive : GivesValues at.used numbers full.image (held_in at.used numbers (sector_at before.image at.sector))
+      keeps_inactive = keeps_old full.image pages full_image (inr (start_alone at.used (at.sequence + 1) fits next pages room stands blank))
 
-      full_pages : sector_at full.image (1 - sector) ≡ pages
-      full_pages = pages_on middle full (1 - sector) pages shape_middle in_other on
+      full_pages : sector_at full.image (1 - at.sector) ≡ pages
+      full_pages = pages_on middle full (1 - at.sector) pages shape_middle in_other on
 
-      pub active_blank : page_at full.image (1 - sector) 1 ≡ blank_page
+      pub active_blank : page_at full.image (1 - at.sector) 1 ≡ blank_page
       active_blank = ap (λ (p : List (List ℕ)). get_or p 1 []) full_pages ∙ blank
 
-      laid : (page : List ℕ) → programmed full.image (1 - sector) 1 page ≡ set before.image (1 - sector) (set pages 1 page)
-      laid page = (λ i. set (full_image i) (1 - sector) (set (full_pages i) 1 page)) ∙ set-set before.image (1 - sector) pages (set pages 1 page)
+      laid : (page : List ℕ) → programmed full.image (1 - at.sector) 1 page ≡ set before.image (1 - at.sector) (set pages 1 page)
+      laid page = (λ i. set (full_image i) (1 - at.sector) (set (full_pages i) 1 page)) ∙ set-set before.image (1 - at.sector) pages (set pages 1 page)
 
-      -- The active gate stands.
-      pub goes_over : (end : ℕ) → LogHolds used numbers pages end (held_in used numbers (sector_at before.image sector)) → (after : FlashState) → after.image ≡ programmed full.image (1 - sector) 1 active
-          → StandsAt used numbers after.image (1 - sector) (sequence + 1) end (held_in used numbers (sector_at before.image sector))
+      -- The active gate is there.
+      pub goes_over : (end : ℕ) → LogHolds at.used numbers pages end (held_in at.used numbers (sector_at before.image at.sector)) → (after : FlashState) → after.image ≡ programmed full.image (1 - at.sector) 1 active
+          → StandsAt at.used numbers after.image (1 - at.sector) (at.sequence + 1) end (held_in at.used numbers (sector_at before.image at.sector))
       goes_over end holds after is =
           let image = is ∙ laid active in
-          let there = ap (λ (i : List (List (List ℕ))). sector_at i (1 - sector)) image ∙ get_or-set_same before.image (1 - sector) (set pages 1 active) [] (omega (arith, shape.sectors, in_other)) in
+          let there = ap (λ (i : List (List (List ℕ))). sector_at i (1 - at.sector)) image ∙ get_or-set_same before.image (1 - at.sector) (set pages 1 active) [] (omega (arith, shape.sectors, in_other)) in
           record {
-            current = ap (current used) image
-                ∙ current_goes used before.image shape.sectors sequence (set pages 1 active) sector in_sector now (made_active used (sequence + 1) fits next pages room stands);
-            holds = subst (λ (p : List (List ℕ)). LogHolds used numbers p end (held_in used numbers (sector_at before.image sector))) (sym there)
-                (held_same used numbers pages (set pages 1 active) end value (omega arith) (length-set pages 1 active) (λ k low. get_or-set_other pages 1 k active [] (omega arith)) holds);
+            current = ap (current at.used) image
+                ∙ current_goes at.used before.image shape.sectors at.sequence (set pages 1 active) at.sector at.one_of_two now (made_active at.used (at.sequence + 1) fits next pages room stands);
+            holds = subst (λ (p : List (List ℕ)). LogHolds at.used numbers p end (held_in at.used numbers (sector_at before.image at.sector))) (sym there)
+                (held_same at.used numbers pages (set pages 1 active) end value (omega arith) (length-set pages 1 active) (λ k low. get_or-set_other pages 1 k active [] (omega arith)) holds);
           }
 
-      -- And the table of the copies tells what it holds.
-      pub table_over : (end : ℕ) (places : List (Option RecordPlace)) → TellsPlaces numbers places (sector_at full.image (1 - sector)) end (held_in used numbers (sector_at middle.image sector)) → (after : FlashState)
-          → after.image ≡ programmed full.image (1 - sector) 1 active → TellsPlaces numbers places (sector_at after.image (1 - sector)) end (held_in used numbers (sector_at before.image sector))
+      -- And the table of the copies gives what it holds.
+      pub table_over : (end : ℕ) (places : List (Option RecordPlace)) → TellsPlaces numbers places (sector_at full.image (1 - at.sector)) end (held_in at.used numbers (sector_at middle.image at.sector)) → (after : FlashState)
+          → after.image ≡ programmed full.image (1 - at.sector) 1 active → TellsPlaces numbers places (sector_at after.image (1 - at.sector)) end (held_in at.used numbers (sector_at before.image at.sector))
       table_over end places tells after is =
           let image = is ∙ laid active in
-          let there = ap (λ (i : List (List (List ℕ))). sector_at i (1 - sector)) image ∙ get_or-set_same before.image (1 - sector) (set pages 1 active) [] (omega (arith, shape.sectors, in_other)) in
-          subst (λ (p : List (List ℕ)). TellsPlaces numbers places p end (held_in used numbers (sector_at before.image sector))) (sym there)
+          let there = ap (λ (i : List (List (List ℕ))). sector_at i (1 - at.sector)) image ∙ get_or-set_same before.image (1 - at.sector) (set pages 1 active) [] (omega (arith, shape.sectors, in_other)) in
+          subst (λ (p : List (List ℕ)). TellsPlaces numbers places p end (held_in at.used numbers (sector_at before.image at.sector))) (sym there)
           (still_tells pages (set pages 1 active) end (length-set pages 1 active) (λ k low lt. get_or-set_other pages 1 k active [] (omega arith)) numbers places value
-          (subst (λ (p : List (List ℕ)). TellsPlaces numbers places p end (held_in used numbers (sector_at before.image sector))) full_pages
-          (subst (λ (p : List (List ℕ)). TellsPlaces numbers places (sector_at full.image (1 - sector)) end (held_in used numbers p)) source_stays tells)))
+          (subst (λ (p : List (List ℕ)). TellsPlaces numbers places p end (held_in at.used numbers (sector_at before.image at.sector))) full_pages
+          (subst (λ (p : List (List ℕ)). TellsPlaces numbers places (sector_at full.image (1 - at.sector)) end (held_in at.used numbers p)) source_stays tells)))
 
-      pub activation_left : (end : ℕ) → LogHolds used numbers pages end (held_in used numbers (sector_at before.image sector)) → (after : FlashState) (result : Result (Unit {0}) FlashFailed)
-          → Appends full after (1 - sector) 1 active result → GivesValues used numbers after.image (held_in used numbers (sector_at before.image sector))
-      activation_left end holds after (Ok x) is = record { sector = 1 - sector; sequence = sequence + 1; end = end; stands = goes_over end holds after is.done }
+      pub activation_left : (end : ℕ) → LogHolds at.used numbers pages end (held_in at.used numbers (sector_at before.image at.sector)) → (after : FlashState) (result : Result (Unit {0}) FlashFailed)
+          → Appends full after (1 - at.sector) 1 active result → GivesValues at.used numbers after.image (held_in at.used numbers (sector_at before.image at.sector))
+      activation_left end holds after (Ok x) is = record { sector = 1 - at.sector; sequence = at.sequence + 1; end = end; stands = goes_over end holds after is.done }
       activation_left end holds after (Err e) is = ⊎_elim
-          (λ whole. record { sector = 1 - sector; sequence = sequence + 1; end = end; stands = goes_over end holds after (is.torn.only ∙ ap (programmed full.image (1 - sector) 1) whole) })
-          (λ gone. keeps_old after.image (set pages 1 is.torn.torn) (is.torn.only ∙ laid is.torn.torn) (inr (not_active used (sequence + 1) fits next pages room stands is.torn.torn is.torn.unspoiled gone))) is.torn.word
+          (λ whole. record { sector = 1 - at.sector; sequence = at.sequence + 1; end = end; stands = goes_over end holds after (is.torn.only ∙ ap (programmed full.image (1 - at.sector) 1) whole) })
+          (λ gone. keeps_old after.image (set pages 1 is.torn.torn) (is.torn.only ∙ laid is.torn.torn) (inr (not_active at.used (at.sequence + 1) fits next pages room stands is.torn.torn is.torn.unspoiled gone))) is.torn.word

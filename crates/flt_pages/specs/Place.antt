@@ -16,13 +16,13 @@ pub record IsPlace (used : ℕ) (numbers : List ℕ) (pages : List (List ℕ)) (
   pub within : used ≤ length pages
   pub blank : slice_index_or pages (page + 1 + byte_pages size) [] ≡ blank_page
 
--- A head that is programmed at this place is read back as a record that is not complete, and with its gate behind it as one that is.
+-- A head that is programmed at this place is read back as a record that is not complete, and with its gate after it as one that is.
 pub record IsReadBack (used : ℕ) (numbers : List ℕ) (pages : List (List ℕ)) (page block size : ℕ) (valid : Bool) : Type 0 where
   pub opened : item_at used numbers (slice_set pages page (sealed (word_bytes (Head block size valid page)))) page ≡ Ok (Kept block size valid false)
   pub completed : slice_index_or pages page [] ≡ sealed (word_bytes (Head block size valid page))
       → item_at used numbers (slice_set pages (page + 1 + byte_pages size) (sealed (word_bytes (Gate block page)))) page ≡ Ok (Kept block size valid true)
 
--- Both gates of a sector stand, with this number.
+-- Both gates of a sector are there, with this number.
 pub record HasBothGates (used sequence : ℕ) (pages : List (List ℕ)) : Type 0 where
   pub start : slice_index_or pages 0 [] ≡ sealed (word_bytes (Start sequence used))
   pub active : slice_index_or pages 1 [] ≡ sealed (word_bytes (Active sequence))

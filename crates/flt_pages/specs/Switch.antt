@@ -7,6 +7,7 @@ use Rattle.flt_flash.specs.State.{FlashState, HasRisenBy, counted_up}
 use Rattle.flt_flash.specs.declared.flash.FlashFailed.{FlashFailed}
 use Rattle.flt_pages.specs.LogHolds.{LogHolds, StandsAt, given}
 use Rattle.flt_pages.specs.Live.{held_in, current_pages}
+use Rattle.flt_pages.specs.declared.current.CurrentSector.{CurrentSector}
 use Rattle.flt_pages.specs.declared.place.RecordPlace.{RecordPlace}
 use Rattle.flt_pages.specs.RecordPlace.{IsAt, TellsPlaces}
 use Rattle.flt_pages.specs.Record.{KeptApart}
@@ -20,30 +21,30 @@ copied_below from value block = if nat_lt block from then value block else missi
 abbrev pub KeepsGates : List (List ℕ) → List (List ℕ) → Type 0
 KeepsGates pages after = KeptApart pages after 2 (length pages)
 
--- Pages of a sector behind its gates are written, and nothing else of the image; a failure has its cause.
+-- Pages of a sector after its gates are written, and nothing else of the image; a failure has its cause.
 pub record WritesBehindGates {T : Type 0} (before after : FlashState) (sector : ℕ) (result : Result T FlashFailed) : Type 0 where
   pub pages : List (List ℕ)
   pub on : OnSector before after sector pages
   pub gates : KeepsGates (sector_at before.image sector) pages
   pub cause : OnErr result (HasRisenBy 1 before.faults after.faults)
 
--- Copies behind this page took two operations for each of their pages at most.
+-- Copies after this page took two operations for each of their pages at most.
 abbrev pub TakesTwoForEach : ℕ → FlashState → FlashState → Result ℕ FlashFailed → Type 0
 TakesTwoForEach from before after result = IfOk result (λ end. after.operations + 2 * from ≤ before.operations + 2 * end)
 
--- The current record of a block is copied behind the log of the other sector; the answer is where that log ends then.
-pub record CopiesBlock (before after : FlashState) (sector other used : ℕ) (numbers : List ℕ) (number end : ℕ) (result : Result ℕ FlashFailed) : Type 0 where
-  pub written : WritesBehindGates before after other result
-  pub stays : (k : ℕ) → k < end → slice_index_or written.pages k [] ≡ slice_index_or (sector_at before.image other) k []
-  pub place : IfOk result (λ last. last ≡ end + pages_of (held_in used numbers (sector_at before.image sector) number))
-  pub holds : IfOk result (λ last. (value : ℕ → Content) → value number ≡ missing → LogHolds used numbers (sector_at before.image other) end value
-      → LogHolds used numbers written.pages last (given number (held_in used numbers (sector_at before.image sector) number) value))
+-- The current record of a block is copied after the log of the other sector; the answer is where that log ends then.
+pub record CopiesBlock (before after : FlashState) (at : CurrentSector) (numbers : List ℕ) (number end : ℕ) (result : Result ℕ FlashFailed) : Type 0 where
+  pub written : WritesBehindGates before after (1 - at.sector) result
+  pub stays : (k : ℕ) → k < end → slice_index_or written.pages k [] ≡ slice_index_or (sector_at before.image (1 - at.sector)) k []
+  pub place : IfOk result (λ last. last ≡ end + pages_of (held_in at.used numbers (sector_at before.image at.sector) number))
+  pub holds : IfOk result (λ last. (value : ℕ → Content) → value number ≡ missing → LogHolds at.used numbers (sector_at before.image (1 - at.sector)) end value
+      → LogHolds at.used numbers written.pages last (given number (held_in at.used numbers (sector_at before.image at.sector) number) value))
 
--- The current records of all blocks are copied behind the gates of the other sector; the answer is where its log ends then.
-pub record CopiesBlocks (before after : FlashState) (sector other used : ℕ) (numbers : List ℕ) (result : Result ℕ FlashFailed) : Type 0 where
-  pub written : WritesBehindGates before after other result
-  pub room : IfOk result (λ end. end ≤ 2 + current_pages used numbers (sector_at before.image sector))
-  pub holds : IfOk result (λ end. LogHolds used numbers written.pages end (held_in used numbers (sector_at before.image sector)))
+-- The current records of all blocks are copied after the gates of the other sector; the answer is where its log ends then.
+pub record CopiesBlocks (before after : FlashState) (at : CurrentSector) (numbers : List ℕ) (result : Result ℕ FlashFailed) : Type 0 where
+  pub written : WritesBehindGates before after (1 - at.sector) result
+  pub room : IfOk result (λ end. end ≤ 2 + current_pages at.used numbers (sector_at before.image at.sector))
+  pub holds : IfOk result (λ end. LogHolds at.used numbers written.pages end (held_in at.used numbers (sector_at before.image at.sector)))
 
 -- The image has no fault and gives each block this value, whichever of its sectors is the current one.
 pub record GivesValues (used : ℕ) (numbers : List ℕ) (image : List (List (List ℕ))) (value : ℕ → Content) : Type 0 where
@@ -62,15 +63,15 @@ pub record Erases (limit sector : ℕ) (before after : FlashState) : Type 0 wher
   pub operations : after.operations ≤ before.operations + limit
   pub wear : after.wear ≡ slice_set before.wear sector (counted_up (slice_index before.wear sector))
 
--- The current records were moved from this sector to the other one: the log there ends behind them at most, and they cost two operations for
--- each of their pages and three more, with one erase.
+-- The current records were moved from this sector to the other one: the log there is no longer than they are, and they cost two operations
+-- for each of their pages and three more, with one erase.
 pub record MovesRecords (pages sector end : ℕ) (before after : FlashState) : Type 0 where
   pub room : end ≤ 2 + pages
   pub erases : Erases (3 + 2 * pages) (1 - sector) before after
 
 -- The sectors were switched: the other one is the current one with the next number, its log ends here and gives each block what it held.
-pub record HasSwitched (before after : FlashState) (sector sequence used : ℕ) (numbers : List ℕ) (places : List (Option RecordPlace)) (end : ℕ) : Type 0 where
-  pub stands : StandsAt used numbers after.image (1 - sector) (sequence + 1) end (held_in used numbers (sector_at before.image sector))
-  -- The table tells where each record is.
-  pub table : TellsPlaces numbers places (sector_at after.image (1 - sector)) end (held_in used numbers (sector_at before.image sector))
-  pub moves : MovesRecords (current_pages used numbers (sector_at before.image sector)) sector end before after
+pub record HasSwitched (before after : FlashState) (at : CurrentSector) (numbers : List ℕ) (places : List (Option RecordPlace)) (end : ℕ) : Type 0 where
+  pub stands : StandsAt at.used numbers after.image (1 - at.sector) (at.sequence + 1) end (held_in at.used numbers (sector_at before.image at.sector))
+  -- The table says where each record is.
+  pub table : TellsPlaces numbers places (sector_at after.image (1 - at.sector)) end (held_in at.used numbers (sector_at before.image at.sector))
+  pub moves : MovesRecords (current_pages at.used numbers (sector_at before.image at.sector)) at.sector end before after

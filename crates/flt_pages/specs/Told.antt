@@ -6,7 +6,7 @@ use Rattle.flt_sector_model.specs.Blocks.{Current}
 use Rattle.flt_sector_model.specs.Log.{LogFrom}
 use Rattle.flt_pages.specs.declared.fault.PageFault.{PageFault}
 use Rattle.flt_pages.specs.declared.fault.PageFault.TheVariants.{Flash, Damaged}
-use Rattle.flt_pages.specs.declared.sectors.CurrentSector.{CurrentSector}
+use Rattle.flt_pages.specs.declared.current.CurrentSector.{CurrentSector}
 
 -- A value, or a fault at its page of this sector.
 abbrev pub told : {T : Type 0} → ℕ → Result T ℕ → Result T PageFault
@@ -27,14 +27,16 @@ told_end sector end (Some page) = Err (Damaged sector page)
 abbrev pub told_log : ℕ → LogFrom → Result ℕ PageFault
 told_log sector log = told_end sector log.end log.fault
 
--- The current sector, or the fault of a gate.
-abbrev pub told_current : Result (Option Current) (ℕ × ℕ) → Result (Option CurrentSector) PageFault
-told_current (Err place) = Err (Damaged place.0 place.1)
-told_current (Ok None) = Ok None
-told_current (Ok (Some at)) = Ok (Some (record { sector = at.sector; sequence = at.sequence }))
-
+-- The sector and its number, without its used pages.
 abbrev pub current_of : CurrentSector → Current
 current_of at = record { sector = at.sector; sequence = at.sequence }
+
+-- The current sector with this many used pages, none where no sector is valid, the fault of a gate, or a failed read.
+abbrev pub GivesCurrent : ℕ → Result (Option CurrentSector) PageFault → Result (Option Current) (ℕ × ℕ) → Type 0
+GivesCurrent used (Ok None) found = found ≡ Ok None
+GivesCurrent used (Ok (Some at)) found = (found ≡ Ok (Some (current_of at))) × (at.used ≡ used)
+GivesCurrent used (Err Flash) found = Unit {0}
+GivesCurrent used (Err (Damaged sector page)) found = found ≡ Err (sector, page)
 
 -- This answer, or that of a failed read.
 abbrev pub TellsOrFails : {T : Type 0} → Result T PageFault → Result T PageFault → Type 0

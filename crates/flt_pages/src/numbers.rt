@@ -24,7 +24,7 @@ pub struct Numbers {
 /// The numbers that have a hint are those below this one.
 const HINTS: usize = 1024;
 
-/// A hint for each number below `HINTS`: at which row it stands, if it has one. A wrong hint costs a search, and no answer rests on it.
+/// A hint for each number below `HINTS`: at which row it is, if it has one. A wrong hint costs a search, and no answer rests on it.
 fn hints_of(alloc: Global, rows: &[Row]) -> Result<Vec<u16>, AllocError> {
     let mut hints = Vec::with_capacity(alloc, HINTS)?;
     hints.resize(HINTS, 0)?;
@@ -118,7 +118,7 @@ impl Numbers {
         self.index_of(block).is_some()
     }
 
-    /// The number behind `from - 1` in ascending order, where the hint of that is right and the number is `from` or more.
+    /// The number after `from - 1` in ascending order, where the hint of that is right and the number is `from` or more.
     #[inline(always)]
     fn hinted_from(&self, from: u32) -> Option<u16>
         ensures { IfSome result (λ number. IsLeastFrom from self.now (Some number)) }

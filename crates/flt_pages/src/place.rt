@@ -5,10 +5,11 @@ ghost use Rattle.flt_flash.specs.State.{OnlyReads, HasRisenBy};
 ghost use Rattle.flt_sector_model.specs.Log.{log};
 ghost use Rattle.flt_pages.specs.Told.{TellsOrFails, told_log};
 ghost use Rattle.flt_pages.specs.Live.{held_in};
-ghost use Rattle.flt_pages.specs.Needs.{HasUsedPages, IsTableOf};
+ghost use Rattle.flt_pages.specs.Needs.{IsTableOf};
 ghost use Rattle.flt_pages.specs.RecordPlace.{IsPlaceOf, TellsPlaces};
 
 use crate::PageFault;
+use crate::current::CurrentSector;
 use crate::items::{blank_from, byte_pages, item};
 use crate::numbers::Numbers;
 use flt_flash::Flash;
@@ -79,27 +80,26 @@ pub fn forget(places: &mut [Option<RecordPlace>])
 /// the table has no meaning.
 pub fn find_places<F: Flash>(
     flash: &mut F,
-    sector: u8,
-    used: u16,
+    at: CurrentSector,
     numbers: &Numbers,
     places: &mut [Option<RecordPlace>],
 ) -> Result<u16, PageFault>
-    requires pages { HasUsedPages (F.state flash.old) sector used }
+    requires most { at.used ≤ (F.state flash.old).pages }
     requires table { IsTableOf numbers.now places.old }
-    ensures end { TellsOrFails result (told_log sector (log used numbers.now (sector_at (F.state flash.old).image sector))) }
-    ensures places { IfOk result (λ end. TellsPlaces numbers.now places.new (sector_at (F.state flash.old).image sector) end
-        (held_in used numbers.now (sector_at (F.state flash.old).image sector))) }
+    ensures end { TellsOrFails result (told_log at.sector (log at.used numbers.now (sector_at (F.state flash.old).image at.sector))) }
+    ensures places { IfOk result (λ end. TellsPlaces numbers.now places.new (sector_at (F.state flash.old).image at.sector) end
+        (held_in at.used numbers.now (sector_at (F.state flash.old).image at.sector))) }
     ensures size { length places.new ≡ length numbers.now }
     ensures reads { OnlyReads (F.state flash.old) (F.state flash.new) }
-    ensures operations { (F.state flash.new).operations + 1 ≤ (F.state flash.old).operations + used }
+    ensures operations { (F.state flash.new).operations + 1 ≤ (F.state flash.old).operations + at.used }
     ensures cause { IsErrOf result PageFault.Flash → HasRisenBy 1 (F.state flash.old).faults (F.state flash.new).faults }
 {
     forget(places);
     let mut page = 2;
     'log: loop {
-        match item(flash, sector, used, page, numbers)? {
+        match item(flash, at.sector, at.used, page, numbers)? {
             Item::End => {
-                blank_from(flash, sector, used, page)?;
+                blank_from(flash, at.sector, at.used, page)?;
                 return Ok(page);
             }
             Item::Torn => page += 1,

@@ -38,7 +38,7 @@ EndsOn (Eeprom command) over_flash over_eeprom watches (ended.Eeprom outcome) = 
 EndsOn Watch over_flash over_eeprom watches (ended.Watch outcome) = watches outcome
 EndsOn _ _ _ _ _ = ⊥
 
--- With all that is promised of a run over these streams and over this flash or this EEPROM, whose states after it the first two tell, and with all
+-- With all that is promised of a run over these streams and over this flash or this EEPROM, whose states after it the first two give, and with all
 -- that is promised of a watch with these subscribers.
 abbrev pub EndsOver : {B E : Type 0} {n : ℕ} {F : _} {g : _} → (B → FlashState) → (E → FlashState) → List DidUse → ((Config → Medium) → FlashState → FlashState → RunInside)
     → RunOutside → filter.Inside → filter.Outside → FlashState → FlashState → SubTable n F g → Invocation → Ended B E F g → Type 0

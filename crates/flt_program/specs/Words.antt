@@ -1,4 +1,4 @@
--- What the words behind the program's name ask for.
+-- What the words after the program's name ask for.
 use Rattle.std.specs.Prelude.{ℕ, List, [], ◌∷◌, Bool, true, false, Option, Some, None, option_map, nat_le, length, codes, if◌then◌else◌}
 use Rattle.std.specs.Str.{bytes_eq}
 use Rattle.flt_script.specs.Gives.{◌⇒◌}
@@ -29,7 +29,7 @@ kind_of word =
     else if bytes_eq word (codes "lanes") then Some true
     else None
 
--- A load of so many reports.
+-- A load of this many reports.
 unfoldable pub load_of : List ℕ → List ℕ → List ℕ → Option Command
 load_of word count kind =
     if bytes_eq word (codes "load") then (count_of count ⇒ λ reports. option_map (λ lanes. Load reports lanes) (kind_of kind))
@@ -43,7 +43,7 @@ invocation_of (word ∷ next ∷ []) = Flash None
 invocation_of (word ∷ count ∷ kind ∷ []) = Flash (load_of word count kind)
 invocation_of (word ∷ count ∷ kind ∷ next ∷ more) = Flash None
 
--- The reports of a load are so many.
+-- A load has this many reports.
 abbrev pub IsOfRange : Invocation → Type 0
 IsOfRange (Flash command) = IsLoadInRange command
 IsOfRange (Eeprom command) = IsLoadInRange (Some command)

@@ -1,4 +1,4 @@
-//! The words behind the program's name, and what they ask for.
+//! The words after the program's name, and what they ask for.
 ghost use Rattle.std.specs.Prelude.{◌≡◌, ◌≤◌, map, IfSome};
 ghost use Rattle.std.specs.String.{string_bytes};
 ghost use Rattle.flt_run.specs.Command.{IsLoadInRange};
@@ -67,7 +67,7 @@ fn read_load(word: &[u8], count: &[u8], kind: &[u8]) -> Option<Command>
     }
 }
 
-/// What the words behind the program's name ask for.
+/// What the words after the program's name ask for.
 pub(crate) fn read_words(words: &[String]) -> Invocation
     ensures is { result ≡ invocation_of (map string_bytes words.now) }
     ensures range { IsOfRange result }

@@ -7,7 +7,7 @@ use Rattle.flt_notify.specs.Value.{next_value}
 abbrev pub a_change : Change
 a_change = record { place = 9; event = 1; before = 0x50; after = 0x2F }
 
--- The value of a kind behind this one, after that change.
+-- The value of a kind that follows this one, after that change.
 abbrev pub after_a_change : ℕ → ℕ → ℕ
 after_a_change kind value = next_value kind value a_change
 

@@ -18,11 +18,11 @@ use Rattle.flt_program.specs.declared.invocation.Invocation.TheVariants.{Flash, 
 use Rattle.flt_program.specs.Words.{count_of, invocation_of}
 use Rattle.flt_watch.specs.Asked.{is_watched}
 
--- A status, and the one line that is told.
+-- A status, and the one line that is reported.
 abbrev pub one_line : ℕ → List ℕ → Due
 one_line status words = record { status = status; text = words ++ 10 ∷ [] }
 
--- What is told of bytes that are no dump, of an input that was not read, and of words that are no command.
+-- What is reported about bytes that are no dump, of an input that was not read, and of words that are no command.
 pub record RefusalsOfAnInspection : Type 0 where
   pub script : inspection_due (Err (no_script (record { line = 3; cause = Form }))) ≡ one_line 2 (codes "script line 3 form")
   pub other : inspection_due (Err begun) ≡ one_line 2 (codes "script other")
@@ -35,7 +35,7 @@ pub record RefusalsOfAnInspection : Type 0 where
 abbrev pub with_feed : List ℕ → List ℕ
 with_feed words = words ++ 10 ∷ []
 
--- Lines are counted from 1 over the whole input: the first page behind two lines is line 3. A step before the image is no dump, and bytes without
+-- Lines are counted from 1 over the whole input: the first page after two lines is line 3. A step before the image is no dump, and bytes without
 -- the line `image` are none by their first line.
 pub record LinesOfADump : Type 0 where
   pub first_page : inspected [] (with_feed (codes "event 0 dtc 000001") ++ with_feed (codes "image") ++ with_feed (codes "FF")) ≡ one_line 10 (codes "dump line 3")
@@ -44,7 +44,7 @@ pub record LinesOfADump : Type 0 where
   pub wrong : inspected [] (with_feed (codes "memory 16") ++ with_feed (codes "memory") ++ with_feed (codes "image")) ≡ one_line 2 (codes "script line 2 form")
   pub no_image : inspected [] (with_feed (codes "memory 16")) ≡ one_line 2 (codes "script line 1 form")
 
--- The generation that is held is told with status 0, before the lines of the image.
+-- The generation that is held is reported with status 0, before the lines of the image.
 abbrev pub HeldIsTold : Type 0
 HeldIsTold = (dump : DumpContent) (held : Generation) → image_held dump.config dump.image ≡ Ok held
     → image_due dump ≡ record { status = 0; text = with_feed (codes "generation " ++ decimal held.number) ++ listing_text dump.config.pages numbers dump.image }

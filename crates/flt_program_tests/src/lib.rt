@@ -3,7 +3,7 @@
 //! make, and the words of the first program; a worked trace, in which each key, each text and each line of a list is changed, one at a time;
 //! a worked dump in both versions of its format, with pages that are spoiled one at a time; and each exit status.
 //!
-//! It stands on `flt_run`, `flt_watch`, `flt_program`, `flt_audit` and `flt_examine`, and has nothing for the crates above. Read the tables
+//! It depends on `flt_run`, `flt_watch`, `flt_program`, `flt_audit` and `flt_examine`, and has nothing for the crates above. Read the tables
 //! of `src/tests/reports.rt`, `src/tests/watches.rt` and `src/tests/examinations.rt`.
 #![tactic(auto)]
 

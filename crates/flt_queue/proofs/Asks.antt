@@ -1,4 +1,4 @@
--- What is told of a block, and how a post of it is answered.
+-- What is reported of a block, and how a post of it is answered.
 use Rattle.std.proofs.Common.{rules, ◌≡◌, ◌≢◌, ◌∙◌, ℕ, ◌+◌, ◌<◌, ◌≤◌, if◌then◌else◌, nat_lt, nat_eq, Bool, true, false, refl, ap, sym, subst, length, arith, eqb-true, [], ◌∷◌}
 use Rattle.std.proofs.lemmas.Bool.{cond_both}
 use Rattle.std.proofs.lemmas.List.{length-append}
@@ -14,7 +14,7 @@ use Rattle.flt_queue.proofs.Orders.{first_in_first_out}
 use Rattle.flt_queue.proofs.Steps.{as_many}
 use Rattle.flt_queue.proofs.Refusals.{few_wait}
 
--- What the queue tells of a block.
+-- What the queue reports of a block.
 abbrev tells : ℕ → History → LastResult
 tells block past = if pending block past then Pending else last_of block past
 

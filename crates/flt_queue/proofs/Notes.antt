@@ -1,4 +1,4 @@
--- What a call that takes no job is answered, whichever job stands beside the answer.
+-- What a call that takes no job is answered, whichever job is beside the answer.
 use Rattle.std.proofs.Common.{◌≡◌, ℕ, if◌then◌else◌, Bool, true, false, Ok, Err, IfOk, Result}
 use Rattle.flt_queue.specs.declared.job.Job.{Job}
 use Rattle.flt_queue.specs.declared.job.QueueOp.{QueueOp}

@@ -86,7 +86,7 @@ pub as_many : (posts : List Posted) → length (jobs true posts) + length (jobs 
 as_many [] = refl
 as_many (post ∷ posts) = as_many_at post posts post.urgent refl (as_many posts)
 
--- What holds of the posts that wait, and of them with one behind them where there is room, holds when it was asked for.
+-- What holds of the posts that wait, and of them with one after them where there is room, holds when it was asked for.
 pub with_post : (P : List Posted → Type 0) (urgent : Bool) (job : Job) (past : History) (busy room : Bool) → pending job.block past ≡ busy → nat_lt (length (waiting past)) 32 ≡ room
     → P (waiting past) → (length (waiting past) < 32 → P (waiting past ++ posted urgent job ∷ [])) → P (waiting (ops.Post urgent job ∷ past))
 unfolding waiting

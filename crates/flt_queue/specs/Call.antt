@@ -1,4 +1,4 @@
--- What a call of the locked queue tells.
+-- What a call of the locked queue answers.
 use Rattle.std.specs.Prelude.{ℕ, List, Result, reverse}
 use Rattle.flt_queue.specs.Queue.{IsQueueCallFor, answer_q}
 use Rattle.flt_queue.specs.declared.job.Job.{Job}
@@ -21,11 +21,11 @@ reply_after blocks calls op = answer_q (reverse calls) op
 abbrev pub whole : Answer QueueKind → Job → Answer QueueReply
 whole told job = turn.whole job_reply_with told job
 
--- A call stands at the place that it was told, and its reply is the queue's after the calls before that place.
+-- A call is at the place that its answer gives, and its reply is the queue's after the calls before that place.
 abbrev pub IsCall : Seat → Seat → QueueOp → Answer QueueReply → Type 0
 IsCall before after op told = turn.IsCall IsQueueCallFor reply_after before after op told
 
--- What a call tells, whether it is made or refused.
+-- What a call answers, whether it is made or refused.
 abbrev pub Calls : Seat → Seat → QueueOp → Result (Answer QueueReply) (HistoryFull QueueOp) → Type 0
 Calls before after op result = turn.Calls (IsCall before after op) before after op result
 
@@ -33,6 +33,6 @@ Calls before after op result = turn.Calls (IsCall before after op) before after 
 abbrev pub CallsInto : Seat → Seat → QueueOp → Job → Result (Answer QueueKind) (HistoryFull QueueOp) → Type 0
 CallsInto before after op job result = turn.Calls (λ told. IsCall before after op (whole told job)) before after op result
 
--- The same of a call that takes no job: so it is whichever job stands beside the answer.
+-- The same of a call that takes no job: so it is whichever job is beside the answer.
 abbrev pub CallsAlone : Seat → Seat → QueueOp → Result (Answer QueueKind) (HistoryFull QueueOp) → Type 0
 CallsAlone before after op result = turn.Calls (λ told. (job : Job) → IsCall before after op (whole told job)) before after op result

@@ -11,14 +11,14 @@ use Rattle.flt_queue.specs.declared.job.QueueReplyOf.TheVariants as replies
 use Rattle.flt_queue.specs.Queue.{History, Posted, waiting, pending, taken, some_urgent, answer_q}
 use Rattle.flt_queue.specs.Stands.{jobs, block_state}
 
--- The jobs of a kind, and behind them the job, where it is of that kind.
+-- The jobs of a kind, and after them the job, where it is of that kind.
 abbrev pub with_job : Bool → Bool → Job → List Job → List Job
 with_job true true job items = items ++ job ∷ []
 with_job true false job items = items
 with_job false true job items = items
 with_job false false job items = items ++ job ∷ []
 
--- The jobs of a kind, and behind them the job of a post that was accepted.
+-- The jobs of a kind, and after them the job of a post that was accepted.
 abbrev pub with_accepted : Bool → Bool → Job → QueueReply → List Job → List Job
 with_accepted kind urgent job replies.Accepted items = with_job kind urgent job items
 with_accepted kind urgent job replies.BlockPending items = items
@@ -29,7 +29,7 @@ with_accepted kind urgent job replies.Noted items = items
 with_accepted kind urgent job replies.NotTaken items = items
 with_accepted kind urgent job (replies.Last last) items = items
 
--- The jobs of a kind, and behind them the job that was handed out.
+-- The jobs of a kind, and after them the job that was handed out.
 abbrev pub with_handed : Bool → Bool → QueueReply → List Job → List Job
 with_handed kind urgent replies.Accepted items = items
 with_handed kind urgent replies.BlockPending items = items
@@ -56,7 +56,7 @@ handed kind (ops.Take ∷ past) = with_handed kind (some_urgent (waiting past)) 
 handed kind (ops.Done block written ∷ past) = handed kind past
 handed kind (ops.Ask block ∷ past) = handed kind past
 
--- The accepted jobs of a kind are those that were handed out and behind them those that wait. So each job that is handed out was
+-- The accepted jobs of a kind are those that were handed out and after them those that wait. So each job that is handed out was
 -- posted, none is handed out twice, none is lost, and of each kind the oldest is handed out first.
 abbrev pub FirstInFirstOut : Type 0
 FirstInFirstOut = (kind : Bool) (past : History) → accepted_jobs kind past ≡ handed kind past ++ jobs kind (waiting past)
@@ -102,20 +102,20 @@ RefusedChangesNothing = (past : History) (op : QueueOp) → is_call_refused (ans
 abbrev pub FewWait : Type 0
 FewWait = (past : History) → length (waiting past) ≤ 32
 
--- What a call, by its answer, makes of what is told of a block: from a post of it that was accepted on its job is pending, and from a
--- result of it that was noted on, that result is told.
+-- What a call, by its answer, makes of what is reported of a block: from a post of it that was accepted on its job is pending, and from a
+-- result of it that was noted on, that result is reported.
 abbrev pub result_by : ℕ → QueueOp → QueueReply → LastResult → LastResult
 result_by block (ops.Post urgent job) replies.Accepted before = if job.block == block then Pending else before
 result_by block (ops.Done done true) replies.Noted before = if done == block then Written else before
 result_by block (ops.Done done false) replies.Noted before = if done == block then Failed else before
 result_by block _ _ before = before
 
--- What is told of a block behind these calls; nothing before the first that tells of it.
+-- What is reported of a block after these calls: Never before the first call that says something of it.
 abbrev pub result_told : ℕ → History → LastResult
 result_told block [] = Never
 result_told block (op ∷ past) = result_by block op (answer_q past op) (result_told block past)
 
--- Who asks is told so.
+-- An ask is answered so.
 abbrev pub AskTellsLast : Type 0
 AskTellsLast = (block : ℕ) (past : History) → answer_q past (ops.Ask block) ≡ replies.Last (result_told block past)
 

@@ -16,7 +16,7 @@ History = List QueueOp
 abbrev pub IsJob : ℕ → Job → Type 0
 IsJob blocks job = (job.block < blocks) × (0 < length job.bytes.items) × (length job.bytes.items ≤ 32)
 
--- The calls that a queue of so many blocks takes.
+-- The calls that a queue of this many blocks takes.
 abbrev pub IsQueueCallFor : ℕ → QueueOp → Type 0
 IsQueueCallFor blocks (ops.Post urgent job) = IsJob blocks job
 IsQueueCallFor blocks ops.Take = Unit {0}
@@ -127,6 +127,6 @@ IsFor blocks replies.Noted = Unit {0}
 IsFor blocks replies.NotTaken = Unit {0}
 IsFor blocks (replies.Last last) = Unit {0}
 
--- So it is in the answer of this kind, whichever job stands beside it.
+-- So it is in the answer of this kind, whichever job is beside it.
 abbrev pub IsForAlone : ℕ → QueueKind → Type 0
 IsForAlone blocks kind = (job : Job) → IsFor blocks (job_reply_with kind job)

@@ -1,4 +1,4 @@
--- What the queue answers, whatever stands in it for a job that was taken.
+-- What the queue answers, whatever it has in the place of a job that was taken.
 use Rattle.std.specs.Prelude.{◌≡◌}
 use Rattle.flt_queue.specs.declared.job.Job.{Job}
 use Rattle.flt_queue.specs.declared.job.QueueReplyOf.{QueueReplyOf}
@@ -8,7 +8,7 @@ use Rattle.flt_queue.specs.declared.job.QueueReplyOf.TheVariants as replies
 abbrev pub QueueReply : Type 0
 QueueReply = QueueReplyOf Job
 
--- The answer whose job stands elsewhere.
+-- The answer whose job is kept elsewhere.
 abbrev pub QueueKind : Type 0
 QueueKind = QueueReplyOf (Unit {0})
 
@@ -23,6 +23,6 @@ job_reply_with replies.Noted job = replies.Noted
 job_reply_with replies.NotTaken job = replies.NotTaken
 job_reply_with (replies.Last last) job = replies.Last last
 
--- Whichever job stands beside it, the kind is this answer.
+-- Whichever job is beside it, the kind is this answer.
 abbrev pub MakesAlone : QueueKind → QueueReply → Type 0
 MakesAlone kind reply = (job : Job) → job_reply_with kind job ≡ reply

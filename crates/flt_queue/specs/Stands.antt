@@ -15,7 +15,7 @@ jobs false (post ∷ posts) = if post.urgent then jobs false posts else post.job
 abbrev pub block_state : ℕ → History → BlockState
 block_state block past = record { pending = pending block past; taken = taken block past; last = last_of block past }
 
--- The queue of so many blocks is as after these calls.
+-- The queue of this many blocks is as after these calls.
 pub record QueueStands (blocks : ℕ) (past : History) (queue : JobQueue) : Type 0 where
   pub urgent : queue.urgent.items ≡ jobs true (waiting past)
   pub standard : queue.standard.items ≡ jobs false (waiting past)

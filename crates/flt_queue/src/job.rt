@@ -102,5 +102,5 @@ impl<J: Drop> QueueReplyOf<J> {
 /// What the queue answers, with the job that was taken.
 pub type QueueReply = QueueReplyOf<Job>;
 
-/// What the queue answers, where the job that was taken stands elsewhere. It is small, so that it costs little to move.
+/// What the queue answers, where the job that was taken is kept elsewhere. It is small, so that it costs little to move.
 pub type QueueKind = QueueReplyOf<()>;

@@ -1,7 +1,7 @@
 //! What becomes of the jobs that are posted.
 ghost use Rattle.flt_queue.specs.Laws.{AskTellsLast, FewWait, FirstInFirstOut, HandedOutIsDue, OneOfABlock, PostsAreAnswered, RefusedChangesNothing};
 
-/// The accepted jobs of a kind are those that were handed out and behind them those that wait: each job that is handed out was
+/// The accepted jobs of a kind are those that were handed out and after them those that wait: each job that is handed out was
 /// posted, none is handed out twice, none is lost, and of each kind the oldest is handed out first.
 pub fn first_in_first_out()
     ensures { FirstInFirstOut }
@@ -27,8 +27,8 @@ pub fn few_wait()
     ensures { FewWait }
 {}
 
-/// Who asks for the last result of a block is told that it is pending behind a post that was accepted, and behind a result that counted
-/// what that result said; before the first post there is none.
+/// Asked for its last result, a block answers that it is pending after a post that was accepted, and after a result that counted it
+/// answers what that result said; before the first post there is none.
 pub fn ask_tells_last()
     ensures { AskTellsLast }
 {}

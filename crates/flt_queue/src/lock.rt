@@ -19,10 +19,10 @@ use std::sync::Wait;
 /// The right to call a locked queue.
 pub type QueueSeat = Seat<BoxedQueue>;
 
-/// What a call was told. At `Err` its seat has no call left, and nothing was changed: make the call on a seat that has calls left.
+/// The answer to a call. At `Err` its seat has no call left, and nothing was changed: make the call on a seat that has calls left.
 pub type QueueAnswer = Result<Answer<QueueReply>, HistoryFull<QueueOp>>;
 
-/// The same without the job that was taken, which stands elsewhere.
+/// The same without the job that was taken, which is kept elsewhere.
 pub type QueueTold = Result<Answer<QueueKind>, HistoryFull<QueueOp>>;
 
 /// What a lock leaves when it ends.

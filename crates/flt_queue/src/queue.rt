@@ -20,7 +20,7 @@ pub struct BlockState {
     pub last: LastResult,
 }
 
-/// The jobs that wait, and what became of the others. The jobs of each kind stand in a ring, so that the first is taken without a move
+/// The jobs that wait, and what became of the others. The jobs of each kind are in a ring, so that the first is taken without a move
 /// of the others. All memory is taken when the queue is made.
 #[derive(Drop)]
 pub struct JobQueue {
@@ -54,7 +54,7 @@ fn copy_of(job: &Job) -> Job
     job.clone().unwrap()
 }
 
-/// Puts a job behind those that wait.
+/// Puts a job after those that wait.
 fn put_last(jobs: &mut HeapCircularBuffer<Job>, job: Job)
     requires { length jobs.old.items < jobs.old.capacity }
     ensures { jobs.new ≡ buffer (jobs.old.items ++ job ∷ []) jobs.old.capacity }

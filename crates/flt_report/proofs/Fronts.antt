@@ -1,4 +1,4 @@
--- A line of which the first part stands, and the rest could not be put.
+-- A line of which the first part is there, and the rest could not be put.
 use Rattle.std.proofs.Common.{◌≡◌, ℕ, List, ◌++◌, length, ap, sym, ◌∙◌}
 use Rattle.std.proofs.Math.Seq.{take-append_seam}
 use Rattle.flt_step.specs.Puts.{GrowsByFront}

@@ -11,7 +11,7 @@ use Rattle.flt_life_model.specs.Answers.{Told}
 use Rattle.flt_report.specs.Answer.{step_line}
 use Rattle.flt_report.specs.Life.{block_text, parts_text}
 
--- Those of the parts from an index on, where so many steps of lane 0 and so many lanes are told.
+-- Those of the parts from an index on, where this many steps of lane 0 and this many lanes were answered.
 abbrev pub parts_left : List Part → List Told → List (List Told) → ℕ → ℕ → ℕ → List ℕ
 parts_left parts own told index answered lanes = parts_text (lanes + 1) (parts_of (drop index parts)) (drop answered own) (drop lanes told)
 

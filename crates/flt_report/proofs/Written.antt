@@ -32,7 +32,7 @@ take_within n piece more = elim (cases_lt n (length piece)) [
       rw same (take_at piece more (length piece) refl ∙ sym (take_all n piece long))
 ]
 
--- A front of what stands behind a text is a front behind it.
+-- A front of what follows a text is a front after it.
 pub front_behind : (a b c : Option (List ℕ)) (text piece more : List ℕ) → Appends a b text → AppendsFront b c piece → AppendsFront a c (text ++ (piece ++ more))
 front_behind a b c text piece more first second =
     (length text + min second.0 (length piece), rw (take-append-add, take_within second.0 piece more) (Appends-trans a b c text (take second.0 piece) first second.1))
@@ -44,7 +44,7 @@ front_first a c piece more first = (min first.0 (length piece), rw (take_within 
 pub front_next : (a b c : Option (List ℕ)) (text piece : List ℕ) → Appends a b text → AppendsFront b c piece → AppendsFront a c (text ++ piece)
 front_next a b c text piece first second = (length text + second.0, rw take-append-add (Appends-trans a b c text (take second.0 piece) first second.1))
 
--- A text is written behind one that was.
+-- A text is written after one that was.
 pub writes_next : {K T : Type 0} {held : K → Option (List ℕ)} {faults : K → ℕ} {before after last : K} {more : List ℕ} {result : Result T StreamFault} (text : List ℕ)
     → Appends (held before) (held after) text → faults before ≤ faults after → Writes held faults after last more result → Writes held faults before last (text ++ more) result
 writes_next {held = held} {before = before} {after = after} {last = last} {more = more} {result = result} text first later next = record {
@@ -69,17 +69,17 @@ module _ (old new : Option (List ℕ)) (piece more whole : List ℕ) (on : IsWri
   pub stops : (now : Option (List ℕ)) → AppendsFront new now piece → AppendsFront old now whole
   stops now appends = subst (AppendsFront old now) on.both (front_behind old new now on.text piece more on.appended appends)
 
--- What is kept of a text that stands before the rest.
+-- What is kept of a text that comes before the rest.
 pub passes : (old new now : Option (List ℕ)) (text more whole kept : List ℕ) → IsWritten old new (text ++ more) whole → IsWritten new now kept text → IsWritten old now (kept ++ more) whole
 passes old new now text more whole kept on part =
     goes_on old new part.text (kept ++ more) whole
     (subst (λ left. IsWritten old new left whole) (ap (λ text. text ++ more) (sym part.both) ∙ append_assoc part.text kept more) on) now part.appended
 
--- Lines that are kept, with those behind them.
+-- Lines that are kept, with those after them.
 pub joined : (old new : Option (List ℕ)) (kept piece more whole : List ℕ) → IsWritten old new (kept ++ (piece ++ more)) whole → IsWritten old new ((kept ++ piece) ++ more) whole
 joined old new kept piece more whole = subst (λ left. IsWritten old new left whole) (sym (append_assoc kept piece more))
 
--- Lines that are kept, with none behind them.
+-- Lines that are kept, with none after them.
 pub kept_last : (old new : Option (List ℕ)) (kept whole : List ℕ) → IsWritten old new kept whole → IsWritten old new (kept ++ []) whole
 kept_last old new kept whole = subst (λ left. IsWritten old new left whole) (sym (append-nil kept))
 

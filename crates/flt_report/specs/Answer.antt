@@ -82,7 +82,7 @@ answer_text BlockFlash = codes "flash"
 answer_text Armed = codes "armed"
 answer_text Dark = codes "dark"
 
--- What stands behind the step: an arrow, the answer and the end of the line.
+-- What follows the step: an arrow, the answer and the end of the line.
 abbrev pub answer_part : Told → List ℕ
 answer_part told = codes " -> " ++ answer_text told ++ 10 ∷ []
 

@@ -17,7 +17,7 @@ use std::alloc::AllocError;
 /// How many bytes an answer has at most, without a response and the bytes of a block.
 const ANSWER_ROOM: usize = 96;
 
-/// How many bytes stand about an answer, of the arrow and the end of the line.
+/// How many bytes an answer's line has beside it: the arrow and the end of the line.
 const ABOUT_ANSWER: usize = 5;
 
 /// Puts 0 or 1.

@@ -6,7 +6,7 @@ ghost use Rattle.flt_report.specs.Block.{par_line, lane_line, end_line};
 use flt_step::{put_number, put_text};
 use std::alloc::AllocError;
 
-/// At most so many bytes has a line of a block that is no step.
+/// The most bytes of a line of a block that is no step.
 const BLOCK_ROOM: usize = 16;
 
 /// Puts the line that begins a block. Where memory is short it puts nothing; with room for 16 bytes it takes none.

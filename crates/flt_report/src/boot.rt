@@ -14,7 +14,7 @@ use flt_step::{put_number, put_text};
 use flt_store_model::{Mark, Place};
 use std::alloc::AllocError;
 
-/// At most so many bytes has the line that begins a life.
+/// The most bytes of the line that begins a life.
 const BOOT_ROOM: usize = 160;
 
 /// Puts the numbers of a configuration's mark, in at most 54 bytes.

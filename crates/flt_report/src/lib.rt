@@ -1,6 +1,6 @@
-//! The lines of a life, written to a sink; and these lines one by one, each put behind what a vector of bytes holds.
+//! The lines of a life, written to a sink; and these lines one by one, each put after what a vector of bytes holds.
 //!
-//! It stands on `flt_io` for the sink, on `flt_step` for the steps and their words, and on `flt_life_model` for the
+//! It depends on `flt_io` for the sink, on `flt_step` for the steps and their words, and on `flt_life_model` for the
 //! answers and for how a life began. The layer above writes the lines of a life by `write_life` (`specs/Life`). Single lines are put by
 //! `put_step` and `put_boot`, and for a block of lanes by `put_par`, `put_lane` and `put_end`: by their clauses `ok` they put
 //! exactly the line of `specs/Answer`, `specs/Boot` or `specs/Block`, and by `err`, where memory is short, a front of it. `put_reply`

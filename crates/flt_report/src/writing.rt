@@ -20,7 +20,7 @@ use flt_life_model::{Boot, KeptAnswer, LaneReplies};
 use flt_step::{Part, Step};
 use std::alloc::AllocError;
 
-/// The lines of steps are pushed once they have come to so many bytes.
+/// The lines of steps are pushed once they have come to this many bytes.
 const PIECE: usize = 2048;
 
 /// Writes a text.
@@ -128,7 +128,7 @@ fn write_block<K: Sink>(
     Ok(())
 }
 
-/// Puts the line of the next step of lane 0, which was answered, behind the lines that `piece` holds, and pushes them where they
+/// Puts the line of the next step of lane 0, which was answered, after the lines that `piece` holds, and pushes them where they
 /// have come to a piece.
 fn write_one<K: Sink>(
     piece: &mut Vec<u8>,
@@ -150,7 +150,7 @@ fn write_one<K: Sink>(
     Ok(())
 }
 
-/// Pushes the lines that `piece` holds, and writes the lines of a block behind them. No line is kept.
+/// Pushes the lines that `piece` holds, and writes the lines of a block after them. No line is kept.
 fn write_next_block<K: Sink>(
     piece: &mut Vec<u8>,
     number: u32,
@@ -179,7 +179,7 @@ fn rest_of(told: &[LaneReplies], from: usize) -> &[LaneReplies]
     }
 }
 
-/// Puts the lines of parts that were made, with the answers of lane 0 and those of the other lanes, behind those that `piece` holds,
+/// Puts the lines of parts that were made, with the answers of lane 0 and those of the other lanes, after those that `piece` holds,
 /// pushes them in pieces, and keeps the last ones.
 fn put_parts<K: Sink>(
     piece: &mut Vec<u8>,

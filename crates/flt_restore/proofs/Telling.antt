@@ -73,7 +73,7 @@ pub judged_ok : {A : Type 0} (c : Config) (judged : Result A Fault) (value : A) 
 judged_ok {A} c (Ok found) value is = cc
 judged_ok {A} c (Err fault) value is = absurd (cc)
 
--- A step that judges what was read, told of what stands.
+-- A step that judges what was read, in words of what is stored.
 pub step_ok : {A I : Type 0} (c : Config) (judge : I → Result A Fault) (read stands : I) (answer : Result A StartFault) (value : A)
     → answer ≡ Ok value → answer ≡ as_told c (judge read) → read ≡ stands → judge stands ≡ Ok value
 step_ok c judge read stands answer value was told same = judged_ok c (judge stands) value (sym was ∙ told ∙ ap (λ i. as_told c (judge i)) same)

@@ -6,7 +6,7 @@ use Rattle.flt_config.specs.declared.config.Config.{Config}
 use Rattle.flt_store_model.specs.Layout.{mark_number, first_commit}
 use Rattle.flt_restore.specs.Unread.{FailsToRead, IsImageUnread}
 
--- A driver of the mark, the commit and the summary, none of which was ever written, after so many calls, of which the flash failed so many,
+-- A driver of the mark, the commit and the summary, none ever written, after this many calls, of which the flash failed this many,
 -- and this number last.
 abbrev pub after_calls : ℕ → ℕ → Option ℕ → BlocksState
 after_calls calls faults last_failed = record {

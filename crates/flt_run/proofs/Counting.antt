@@ -87,7 +87,7 @@ pub life_saves : {S : Type 0} (answer : S → List Op → Op → Reply) (start :
 life_saves answer start parts own lanes journal made =
     let deeds = deeds_in parts own lanes in
     let first = saves_are journal in
-    let by_blocks = follows_most save_call made.blocks journal made.follows in
+    let by_blocks = follows_most save_call made.blocks journal made.in_order in
     let by_parts = parts_most save_call StepMakes saves_by saves_most 1 parts own lanes made.blocks made.made in
     let turned = sym (saves_told (reverse deeds)) ∙ amount_newest saves_by deeds in
     omega (arith, first, by_blocks, by_parts, turned)
@@ -187,7 +187,7 @@ pub life_drains : {S : Type 0} (answer : S → List QueueOp → QueueOp → Queu
 life_drains answer start parts own lanes journal made =
     let deeds = deeds_in parts own lanes in
     let first = drains_are journal in
-    let by_blocks = follows_most drain_call made.blocks journal made.follows in
+    let by_blocks = follows_most drain_call made.blocks journal made.in_order in
     let by_parts = parts_most drain_call StepQueues drains_by drains_most 1 parts own lanes made.blocks made.made in
     let turned = sym (drains_told (reverse deeds)) ∙ amount_newest drains_by deeds in
     omega (arith, first, by_blocks, by_parts, turned)

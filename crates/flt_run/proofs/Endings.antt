@@ -27,7 +27,7 @@ use Rattle.flt_lane.proofs.Saves.{map_reverse, saves-append, step_calls}
 
 -- ---- the generations
 
--- What is kept by what the main seat knows is kept by the whole journal: behind it stands no call of a save.
+-- What is kept by what the main seat knows is kept by the whole journal: no call of a save comes after it.
 pub kept_at_end : (c : Config) (first : Generation) (main : Seat) (deeds : List Deed) (h s : Generation) (journal known : Journal) → CouldClose main journal → IsKnownTo main known → saves_in journal ≤ saves_of deeds → saves_of deeds ≤ saves_in known
     → (saves_in known ≤ saves_of deeds → IsKeptSince c first (reverse known) (answers_of deeds) h s) → IsKeptSince c first (reverse journal) (answers_of deeds) h s
 kept_at_end c first main deeds h s journal known whole is_known most least kept =
@@ -57,7 +57,7 @@ holds_first jobs values = record {
   known = [];
   is_known = inl (jobs.seen, refl);
   least = omega arith;
-  held = λ few. record { done = refl; held = λ block below. refl; got = tt; told = omega arith };
+  held = λ few. record { counts_jobs = refl; held = λ block below. refl; got = tt; told = omega arith };
 }
 
 -- What holds of all calls.
@@ -67,7 +67,7 @@ pub record HoldsAll (first : ℕ → Content) (past : History) (deeds : List Dee
 
 all_of : (first : ℕ → Content) (past : History) (jobs : ℕ) (deeds : List Deed) (values : ℕ → Content) → AreHeld first past jobs deeds values → HoldsAll first past deeds values
 all_of first past jobs deeds values held = record {
-  held = λ block below. may_whole block (first (application_number block)) (values (application_number block)) past jobs held.done (held.held block below);
+  held = λ block below. may_whole block (first (application_number block)) (values (application_number block)) past jobs held.counts_jobs (held.held block below);
   got = held.got;
 }
 

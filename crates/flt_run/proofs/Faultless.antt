@@ -13,7 +13,7 @@ use Rattle.flt_run.specs.Ending.{RunInside, RunOutside, IsFaultless, IsLastFine,
 first_or_later : (status one : ℕ) (rest : List ℕ) → IsTrue (is_status_among status (one ∷ rest)) → (one ≡ status) ⊎ IsTrue (is_status_among status rest)
 first_or_later status one rest among = ⊎_elim (λ yes. inl (eqb-true one status yes)) (λ no. inr (rw no at among)) (cases_Bool (one == status))
 
--- The bytes are told, and are a script.
+-- The bytes are revealed, and are a script.
 told_script : {P : Type 0} (dids : List DidUse) (left : Option (List ℕ)) → IsSomeAnd left (λ bytes. IsOk (script_of dids (read_of bytes)))
     → IfSome left (λ bytes. IsOk (script_of dids (read_of bytes)) → P) → P
 told_script dids None good then_ = absurd good

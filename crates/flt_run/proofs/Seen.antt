@@ -11,7 +11,7 @@ use Rattle.flt_life_model.specs.Chain.{LifeView}
 use Rattle.flt_life_model.specs.Lives.{lives_seen, view_of, views_of}
 use Rattle.flt_life_model.specs.Statuses.{status_by, status_of_lives}
 
--- A life behind others.
+-- A life after others.
 record LastView (script : List (List (PartOf Step))) (front : List Life) (life : Life) : Type 0 where
   view : LifeView
   seen : views_of script (front ++ life ∷ []) ≡ views_of script front ++ view ∷ []

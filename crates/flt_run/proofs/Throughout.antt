@@ -31,7 +31,7 @@ use Rattle.flt_run.specs.declared.made.Made.{Made}
 use Rattle.flt_run.specs.Ending.{RunInside, RunOutside, IsLeftSound, IsLivedBy, IsSoundFor, IsSoundThroughout, IsRunTold, EndingHasCause, KeepsAcknowledged, LosesNothing, StaysSoundThroughout, RunWantsMemory, WorksOnNone, lives_of, ending_status}
 use Rattle.flt_run.proofs.Lived.{all_of_seen, some_lives, turned}
 
--- The first boot of a run stands first of its boots.
+-- The first boot of a run is the first of its boots.
 first_of : (boot : PowerUp) (boots : List PowerUp) → (later : List PowerUp) × (reverse (boot ∷ boots) ≡ first_boot boot boots ∷ later)
 first_of boot [] = ([], refl)
 first_of boot (next ∷ boots) =

@@ -3,7 +3,7 @@ use Rattle.std.specs.Prelude.{◌≤◌, Bool, true, false, Option, Some, None}
 use Rattle.flt_run.specs.declared.command.Command.{Command}
 use Rattle.flt_run.specs.declared.command.Command.TheVariants.{Run, Check, Load}
 
--- The reports of a load are so many.
+-- A load has this many reports.
 abbrev pub IsLoadInRange : Option Command → Type 0
 IsLoadInRange None = Unit {0}
 IsLoadInRange (Some Run) = Unit {0}

@@ -5,6 +5,6 @@ pub enum Command {
     Run,
     /// The script is read, and the report says what it has.
     Check,
-    /// The script of a load is made, of so many reports, 1 to 60,000, in lanes or without.
+    /// The script of a load is made, of a number of reports, 1 to 60,000, in lanes or without.
     Load { count: u32, lanes: bool },
 }

@@ -58,7 +58,7 @@ fn extent_of(script: &Script) -> Extent
     }
 }
 
-/// The line that tells what a script has.
+/// The line that says what a script has.
 pub(crate) fn accepted_line(alloc: Global, script: &Script) -> Result<String, AllocError>
     ensures { IfOk result (λ line. string_bytes line ≡ accepted_text (content script.now)) }
 {

@@ -1,4 +1,4 @@
-//! What a run comes to by its command, before it is told: the lives of its script over a device, or an answer without lives, and the
+//! What a run comes to by its command, before it is reported: the lives of its script over a device, or an answer without lives, and the
 //! device as they left it. It comes to nothing if memory runs out.
 ghost use Rattle.std.specs.Prelude.{◌≡◌, ◌≢◌, ◌≤◌, List, Some, All, IfSome};
 ghost use Rattle.flt_flash.specs.Blocks.{device_of};
@@ -47,6 +47,7 @@ fn witness(config: &ValidConfig)
 }
 
 /// The lives that were made of a script, with its parts; none if memory ran out.
+#[inline(always)]
 fn made_of(script: Script, lives: Option<Vec<Life>>) -> Option<Made>
     requires { IfSome lives (λ lives. All (λ life. life.boot ≢ Refused Flash) lives.items) }
     ensures { IfSome result (λ made. (lists made.script.items ≡ lists script.lives.items) × (lives ≡ Some made.lives)) }

@@ -40,7 +40,7 @@ lane_more (Some lanes) e = length-append lanes ([] ∷ [])
 
 -- ---- what a block comes to
 
--- A block under way has at most 8 lanes, of steps that may stand there, and at most one has a save, drain or get.
+-- A block under way has at most 8 lanes, of steps that are allowed there, and at most one has a save, drain or get.
 abbrev pub is_block_in : Config → Option (List (List Step)) → Bool
 is_block_in config block = given_by block true (λ lanes. leb (length lanes) 8 && list_all (is_lane_in config) lanes && leb (store_lanes lanes) 1)
 

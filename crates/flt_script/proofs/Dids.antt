@@ -24,7 +24,7 @@ has_id id (first ∷ dids) did e = found_in id first did dids (is_did id first) 
 pub found_again : (id : ℕ) (dids : List DidUse) (did : DidUse) → find (is_did id) dids ≡ Some did → find (is_did did.id) dids ≡ Some did
 found_again id dids did e = subst (λ (n : ℕ). find (is_did n) dids ≡ Some did) (sym (has_id id dids did e)) e
 
--- The number and the width tell it.
+-- The number and the width say which.
 pub found_with : (id width : ℕ) (dids : List DidUse) (found : Option DidUse) → find (is_did id) dids ≡ found
     → option_map (λ did. did.width) found ≡ Some width → Some (record { id = id; width = width }) ≡ found
 found_with id width dids None e wide = absurd cc
@@ -42,7 +42,7 @@ unfolding with_line added_line refusal did_refusal
 accepted dids b event id did begun there room found =
     rw (begun, lt-leb (event_count b) event there, lt-leb 8 (length (uses_of event b.config.events.items)) room, found) refl
 
--- Such a line behind a step.
+-- Such a line after a step.
 pub begun_before : (dids : List DidUse) (b : Behind) (event id : ℕ) → has_begun b ≡ true → with_line dids 0 b (line.Did event id) ≡ Err Order
 unfolding with_line added_line refusal did_refusal
 begun_before dids b event id begun = rw begun refl

@@ -1,4 +1,4 @@
--- The cause that is told of a line is the first of the table that holds of it.
+-- The cause that is reported for a line is the first of the table that holds of it.
 use Rattle.std.proofs.Common.{◌≡◌, ℕ, ◌+◌, List, [], ◌∷◌, length, Bool, true, false, cond, ◌&&◌, ◌||◌, ltb, leb, Option, Some, None, Ok, Err, refl, ap, ◌∙◌, arith, if◌then◌else◌}
 use Rattle.std.specs.Prelude.{ℤ, pos, neg_ℤ, negsuc, int_lt, not, ◌==◌, is_some, is_none, option_map, find}
 use Rattle.std.specs.List.{list_any}
@@ -136,14 +136,14 @@ event_kept event =
 
 -- ---- steps
 
--- A step before the first lane is misplaced, and in a lane one that stands in none, or in another.
+-- A step before the first lane is misplaced, and in a lane one that belongs in none, or in another.
 misplaced : (block : Option (List (List Step))) (s : Step)
     → is_step_misplaced block s ≡ (is_some block && (not (has_lane block) || not (is_lane_step s) || is_store_step s && is_store_taken block))
 misplaced None s = refl
 misplaced (Some []) s = refl
 misplaced (Some (lane ∷ lanes)) s = refl
 
--- What is told of a step that is read like this, and of a line.
+-- What is reported for a step that is read like this, and for a line.
 abbrev of_step : Behind → Option Step → Option LineCause
 of_step b read =
     cond (is_none read) (Some Range)
@@ -162,7 +162,7 @@ step_row b w (Some s) r = rw (← r.some, r.said.arms, r.said.drains, misplaced 
 
 -- ---- lines
 
--- The causes behind Form, of a line.
+-- The causes after Form, of a line.
 abbrev of_line : List DidUse → Behind → Line → Option LineCause
 of_line dids b l =
     cond (configures l && has_begun b || is_set_already b l || has_wrong_event b l) (Some Order)

@@ -68,7 +68,7 @@ last_kept (lane ∷ lanes) zero last new e there items =
 last_kept (lane ∷ lanes) (suc place) last new e there items =
     ap (λ (more : List (List Step)). lane.items ∷ more) (last_kept lanes place last new (omega (arith, e)) there items)
 
--- A step that may stand there is put behind the last lane's.
+-- A step that is allowed there is put after the last lane's.
 pub lane_written : (s : Step) (lanes : List Lane) (place : ℕ) (last new : Lane) (earlier : Bool) → not (not (is_lane_step s) || is_store_step s && earlier) ≡ true
     → earlier ≡ has_earlier_store (steps_of_lanes lanes) → place + 1 ≡ length lanes → last ≡ get_or lanes place last
     → new.items ≡ last.items ++ s ∷ [] → with_lane_step s (steps_of_lanes lanes) ≡ Ok (steps_of_lanes (slice_set lanes place new))

@@ -23,7 +23,7 @@ use Rattle.flt_script.proofs.Accepted.{of_accepted_lines}
 use Rattle.flt_script.proofs.Blocks.{is_block_in, block_steps, block_drains, block_marks, block_with, parts_with, steps_with, arms_with_step, drains_with_step, marks_with, block_with_lane, parts_with_block, steps_with_lane, drains_with_lane, marks_with_lane, steps_with_block, arms_with_block, drains_with_block, marks_with_block}
 use Rattle.flt_script.proofs.StepRead.{is_read, in_range}
 
--- What so many lines gave keeps to the limits.
+-- What this many lines gave keeps to the limits.
 pub record IsKept (b : Behind) (count : ℕ) : Type 0 where
   pub lives : list_all (are_parts_in b.config) b.lives ≡ true
   pub parts : are_parts_in b.config b.parts ≡ true

@@ -1,4 +1,4 @@
--- Line 0 is told of a script that is too large, and of no other fault.
+-- Line 0 is reported for a script that is too large, and for no other fault.
 use Rattle.std.proofs.Common.{◌≡◌, ℕ, ◌+◌, ◌<◌, ◌≤◌, zero, suc, List, [], ◌∷◌, ◌++◌, length, Bool, true, false, cond, ◌||◌, ltb, leb, if◌then◌else◌, Option, Some, None, Result, Ok, Err, refl, sym, ap, subst, ◌∙◌, arith, length-append}
 use Rattle.std.specs.Prelude.{◌≢◌, ◌↔◌, ℤ, pos, ◌≤ℤ◌, All, not, ◌==◌, is_some, is_none, find, slice_get, slice_index, option_to_list, unwrap_or}
 use Rattle.std.proofs.lemmas.Bool.{leb-false}
@@ -106,7 +106,7 @@ sound_added dids number b line.Par s some e = record { placed = s.placed; few = 
 sound_added dids number b line.Lane s some e = record { placed = s.placed; few = s.few; events = s.events; memory = s.memory; pages = s.pages; blocks = s.blocks }
 sound_added dids number b line.End s some e = record { placed = s.placed; few = s.few; events = s.events; memory = s.memory; pages = s.pages; blocks = s.blocks }
 
--- ---- a fault of the configuration is told at a line
+-- ---- a fault of the configuration is reported at a line
 
 abbrev Each : (Setting → Type 0) → List Setting → Type 0
 Each P [] = Unit {0}
@@ -246,7 +246,7 @@ never_large dids past text c e large =
     let passes = found_passes (cause_holds dids (behind dids past) text) causes cause.Large (sym (first_cause_is_told dids past text) ∙ told) in
     absurd cc
 
--- A fault that is told at a line.
+-- A fault that is reported at a line.
 pub record IsOfLine (fault : ScriptFault) : Type 0 where
   pub line : 0 < fault.line
   pub other : fault.cause ≢ cause.Large

@@ -57,7 +57,7 @@ module _ (n : ℕ) (small : n < 10 ^ 10) where
 
 -- A keyword.
 module _ (word : List ℕ) (solid : list_all is_solid word ≡ true) (some : 0 < length word) (short : length word ≤ 10) (n : ℕ) (small : n < 10 ^ 10) where
-  -- One number behind it.
+  -- One number after it.
   pub with_one : (keyword : Keyword) → is_comment word ≡ false → keyword_of word ≡ Some keyword
       → line_of (with_number word n) ≡ ok_or (line_with keyword (decimal n ∷ [])) Form
   with_one keyword no_comment found =

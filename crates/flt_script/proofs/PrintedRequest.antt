@@ -41,7 +41,7 @@ module _ (byte : ℕ) (small : byte < 256) where
       let value : (0 * 16 + byte / 16) * 16 + byte % 16 ≡ byte = omega arith in
       rw (high, low, lt-ltb (byte / 16) 16 (omega arith), lt-ltb (byte % 16) 16 (omega arith)) (ap (λ (n : ℕ). Some n) value)
 
--- The words of a word and bytes behind it.
+-- The words of a word and bytes after it.
 pub words_of-spaced : (word bytes : List ℕ) → list_all is_solid word ≡ true → 0 < length word → are_bytes bytes ≡ true
     → words_of (word ++ spaced bytes) ≡ word ∷ map two_digits bytes
 words_of-spaced word [] solid some small = rw append-nil (words_of_one word solid some)

@@ -63,7 +63,7 @@ digits_test (digit ∷ digits) all = rw (lt-ltb (digit_value digit) 10 all.0, di
 
 -- A line of words.
 module _ (word rest : List ℕ) (solid : list_all is_solid word ≡ true) (some : 0 < length word) where
-  -- A word stands before a space.
+  -- A word is before a space.
   pub words_of_first : words_of (word ++ 32 ∷ rest) ≡ word ∷ words_of rest
   unfolding words_of is_space_or_tab
   words_of_first =

@@ -87,7 +87,7 @@ earlier_with_lane (lane ∷ next ∷ lanes) = ap (λ later. has_store_step lane 
 
 -- ---- the block under way
 
--- A step was read, may stand where it does, and is a save, drain or get or none.
+-- A step was read, is allowed where it is, and is a save, drain or get or none.
 pub block_used : (read : Option Step) (block : Option (List (List Step))) (under_way said before : Bool) → is_none read ≡ false
     → given_by read false (is_step_misplaced block) ≡ false → IfSome read (λ s. is_store_step s ≡ said) → is_some block ≡ under_way
     → is_store_used block ≡ (under_way && before) → is_store_used (option_map (in_last_lane read) block) ≡ (under_way && (said || before))

@@ -72,7 +72,7 @@ module _ (config : Config) where
   says_none keyword.Fault words others = absurd (let wrong : true ≡ false = others in cc wrong)
   says_none keyword.Mute words others = absurd (let wrong : true ≡ false = others in cc wrong)
 
-  -- The step that was read, by what the words behind its keyword say.
+  -- The step that was read, by what the words after its keyword say.
   pub says_step : (keyword : Keyword) (words : List (List ℕ)) (written : Option StepLine) → (begins_step keyword ≡ true → option_map line.Step written ≡ line_with keyword words)
       → (begins_step keyword ≡ false → written ≡ None) → step_where config (ok_or (line_with keyword words) Form) ≡ (written ⇒ step_of config)
   says_step keyword words written said none = by_keyword (begins_step keyword) refl
@@ -85,7 +85,7 @@ module _ (config : Config) where
       by_keyword true is = ap (λ (o : Option Line). step_where config (ok_or o Form)) (sym (said is)) ∙ read written
       by_keyword false is = says_none keyword words is ∙ sym (ap (λ (o : Option StepLine). o ⇒ step_of config) (none is))
 
--- The keyword that a line begins with, and the words behind it.
+-- The keyword that a line begins with, and the words after it.
 pub begun : (r : Result (Option (Keyword × List (List ℕ))) LineCause) (first : Option (Keyword × List (List ℕ))) (found : Keyword × List (List ℕ))
     → result_ok r ≡ Some first → first ≡ Some found → said_behind r ≡ ok_or (line_with found.0 found.1) Form
 begun (Err cause) first found is some = absurd cc

@@ -29,7 +29,7 @@ step_where config (Err cause) = None
 abbrev pub step_in : Config → List ℕ → Option Step
 step_in config text = step_where config (line_of text)
 
--- What a line says behind a configuration that is closed: it configures no more, and there is no block of lanes.
+-- What a line says after a configuration that is closed: it configures no more, and there is no block of lanes.
 abbrev pub said_alone : Config → Line → Result AloneLine LineCause
 said_alone config line.Skipped = Ok alone.Skipped
 said_alone config (line.Step written) = ok_or (option_map alone.Step (step_of config written)) Range
@@ -39,7 +39,7 @@ said_alone config line.Lane = Err Block
 said_alone config line.End = Err Block
 said_alone config _ = Err Order
 
--- The same of the words behind a keyword.
+-- The same of the words after a keyword.
 abbrev pub words_alone : Config → Keyword → List (List ℕ) → Result AloneLine LineCause
 words_alone config keyword words = ok_or (line_with keyword words) Form >>= said_alone config
 

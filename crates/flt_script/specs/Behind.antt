@@ -25,7 +25,7 @@ use Rattle.flt_step.specs.Step.{arms_of_step, drain_count, has_store_step}
 
 -- All that the rules for the next line look at: what is configured and by which lines, the lives that were ended, the
 -- parts of the life under way, the lanes of the block under way, if there is one, and how many steps, how many of cut, fault
--- and mute, and how many drains, stand in all lives together.
+-- and mute, and how many drains there are in all lives together.
 pub record Behind : Type 0 where
   pub config : Config
   pub places : Places
@@ -52,7 +52,7 @@ blank = record { config = default_config; places = no_places; lives = []; parts 
 abbrev pub event_count : Behind → ℕ
 event_count b = length b.config.events.items
 
--- A step, the end of a life or the beginning of a block stands already.
+-- There is already a step, the end of a life or the beginning of a block.
 abbrev pub has_begun : Behind → Bool
 has_begun b = nat_lt 0 (length b.parts) || nat_lt 0 (length b.lives) || is_some b.block
 
@@ -117,21 +117,21 @@ step_of config (Get block) = option_map step.Get (if_below config.blocks block)
 step_of config (Ask block) = option_map step.Ask (if_below config.blocks block)
 step_of config (Arming arm) = option_map step.Arming (arm_of arm)
 
--- How many of cut, fault and mute stand with this step.
+-- How many of cut, fault and mute there are with this step.
 abbrev pub arms_with : Behind → StepLine → ℕ
 arms_with b step = b.arms + given_by (step_of b.config step) 0 arms_of_step
 
--- How many drains stand with this step.
+-- How many drains there are with this step.
 abbrev pub drains_with : Behind → StepLine → ℕ
 drains_with b step = b.drains + given_by (step_of b.config step) 0 drain_count
 
--- A step more in the last lane, if there is one.
+-- One more step in the last lane, if there is one.
 abbrev pub in_last_lane : Option Step → List (List Step) → List (List Step)
 in_last_lane step [] = []
 in_last_lane step (lane ∷ []) = (lane ++ option_to_list step) ∷ []
 in_last_lane step (lane ∷ next ∷ lanes) = lane ∷ in_last_lane step (next ∷ lanes)
 
--- A step more behind the parts of a life, unless it stands in a block.
+-- One more step after the parts of a life, unless it is in a block.
 abbrev pub with_step : Option (List (List Step)) → Option Step → List (PartOf Step) → List (PartOf Step)
 with_step None step parts = parts ++ option_to_list (option_map inl step)
 with_step (Some lanes) step parts = parts

@@ -13,6 +13,6 @@ abbrev pub each : (List ℕ → Option ℕ) → List (List ℕ) → Option (List
 each spelled [] = Some []
 each spelled (word ∷ words) = spelled word ⇒ λ first. each spelled words ⇒ λ others. Some (first ∷ others)
 
--- One byte or more, at most so many, each of two hexadecimal digits.
+-- One byte or more, at most this many, each of two hexadecimal digits.
 unfoldable pub bytes_of : ℕ → List (List ℕ) → Option (List ℕ)
 bytes_of most words = if nat_le 1 (length words) && nat_le (length words) most then each (hexadecimal 2) words else None

@@ -1,5 +1,5 @@
--- The table of refusals, a cause at a time: when each holds of a line, behind what the lines before it gave. Each is said
--- by itself; that the first that holds is the one that is told is a law.
+-- The table of refusals, a cause at a time: when each holds of a line, after what the lines before it gave. Each is said
+-- by itself; that the first that holds is the one that is reported is a law.
 use Rattle.std.specs.Prelude.{ℕ, ◌+◌, ℤ, pos, negsuc, int_lt, List, [], ◌∷◌, length, Bool, true, false, not, ◌==◌, ◌&&◌, ◌||◌, nat_lt, nat_le, is_some, is_none, Option, Some, None, Result, Ok, Err, if◌then◌else◌}
 use Rattle.std.specs.List.{list_any}
 use Rattle.std.specs.Str.{bytes_eq}
@@ -51,7 +51,7 @@ configures (line.Event event) = true
 configures (line.Did event id) = true
 configures _ = false
 
--- A line that stands once stands already.
+-- A line that may occur once is there already.
 abbrev pub is_set_already : Behind → Line → Bool
 is_set_already b (line.Config id) = is_some b.places.config
 is_set_already b (line.Memory entries) = is_some b.places.memory
@@ -137,19 +137,19 @@ is_one_too_many b line.Power = nat_le 256 (length b.lives + 1)
 is_one_too_many b line.Lane = nat_le 8 (lane_count b.block)
 is_one_too_many b _ = false
 
--- A step that stands in no lane: cut, fault and mute.
+-- A step that is allowed in no lane: cut, fault and mute.
 abbrev pub is_for_no_lane : StepLine → Bool
 is_for_no_lane (Arming arm) = true
 is_for_no_lane _ = false
 
--- A step that stands in one lane of a block at most: save, drain and get.
+-- A step that is allowed in one lane of a block at most: save, drain and get.
 abbrev pub is_for_one_lane : StepLine → Bool
 is_for_one_lane Save = true
 is_for_one_lane Drain = true
 is_for_one_lane (Get block) = true
 is_for_one_lane _ = false
 
--- In a block stand only its lanes, with steps that may stand there, and its end behind a lane; a lane and an end stand nowhere else.
+-- A block has only its lanes, with steps that are allowed there, and its end after a lane; a lane and an end are allowed nowhere else.
 abbrev pub is_misplaced : Behind → Line → Bool
 is_misplaced b (line.Step step) =
     is_some b.block && (not (has_lane b.block) || is_for_no_lane step || is_for_one_lane step && is_store_taken b.block)
@@ -182,7 +182,7 @@ cause_holds dids b text Block = on_line (is_misplaced b) (line_said (words_of te
 cause_holds dids b text Did = on_line (is_did_unknown dids) (line_said (words_of text))
 cause_holds dids b text _ = false
 
--- The cause that is told, if one is.
+-- The cause that is reported, if one is.
 abbrev pub cause_told : Result Line LineCause → Option LineCause
 cause_told (Ok said) = None
 cause_told (Err cause) = Some cause

@@ -1,4 +1,4 @@
--- What the lines before a line gave, told by the lines themselves: how many of a kind there are, and whether one stands.
+-- What the lines before a line gave, said by the lines themselves: how many of a kind there are, and whether there is one.
 use Rattle.std.specs.Prelude.{◌≡◌, ℕ, ◌+◌, List, [], ◌∷◌, length, count_by, Bool, true, false, ◌&&◌, ◌||◌, is_some}
 use Rattle.std.specs.List.{list_any}
 use Rattle.flt_config.specs.declared.config.DidUse.{DidUse}
@@ -40,7 +40,7 @@ abbrev pub is_event : Line → Bool
 is_event (line.Event event) = true
 is_event _ = false
 
--- Each of the lines that stand once.
+-- Each of the lines that may occur once.
 abbrev pub is_config : Line → Bool
 is_config (line.Config id) = true
 is_config _ = false
@@ -64,7 +64,7 @@ is_block_open (line.Par ∷ past) = true
 is_block_open (line.End ∷ past) = false
 is_block_open (_ ∷ past) = is_block_open past
 
--- How many lanes stand behind the newest par or end.
+-- How many lanes there are after the newest par or end.
 abbrev pub lanes_in_block : List Line → ℕ
 lanes_in_block [] = 0
 lanes_in_block (line.Par ∷ past) = 0
@@ -72,7 +72,7 @@ lanes_in_block (line.End ∷ past) = 0
 lanes_in_block (line.Lane ∷ past) = lanes_in_block past + 1
 lanes_in_block (_ ∷ past) = lanes_in_block past
 
--- Behind the newest par or end stands a save, drain or get.
+-- After the newest par or end there is a save, drain or get.
 abbrev pub is_store_behind : List Line → Bool
 is_store_behind [] = false
 is_store_behind (line.Par ∷ past) = false
@@ -80,7 +80,7 @@ is_store_behind (line.End ∷ past) = false
 is_store_behind (line.Step step ∷ past) = is_for_one_lane step || is_store_behind past
 is_store_behind (_ ∷ past) = is_store_behind past
 
--- Behind the newest par or end stands one, and before the newest lane.
+-- There is one after the newest par or end and before the newest lane.
 abbrev pub is_store_before_lane : List Line → Bool
 is_store_before_lane [] = false
 is_store_before_lane (line.Par ∷ past) = false

@@ -20,12 +20,12 @@ only spelled [] = None
 only spelled (word ∷ []) = spelled word
 only spelled (word ∷ next ∷ more) = None
 
--- What is spelled, or the default where nothing stands.
+-- What is spelled, or the default where nothing is there.
 abbrev pub spelled_or : {A : Type 0} → A → (List (List ℕ) → Option A) → Option (List (List ℕ)) → Option A
 spelled_or default spelled None = Some default
 spelled_or default spelled (Some values) = spelled values
 
--- The pair stands.
+-- The pair is there.
 abbrev pub has_pair : Key → List (List ℕ) → Bool
 has_pair key pairs = is_some (values_of key pairs)
 
@@ -33,7 +33,7 @@ has_pair key pairs = is_some (values_of key pairs)
 unfoldable pub number_or : ℕ → Key → List (List ℕ) → Option ℕ
 number_or default key pairs = spelled_or default (only number) (values_of key pairs)
 
--- The value to which a report jumps, if the pair stands.
+-- The value to which a report jumps, if the pair is there.
 unfoldable pub jump_of : Key → List (List ℕ) → Option (Option ℤ)
 jump_of key pairs = spelled_or None (λ values. option_map Some (only signed values)) (values_of key pairs)
 
@@ -72,11 +72,11 @@ numbers_of pairs =
     number_or 0 Needs pairs ⇒ λ needs.
     Some (record { priority = priority; cycle = cycle; confirm = confirm; heal = heal; age = age; lamp = lamp; needs = needs })
 
--- The one word of dtc, which must stand: six hexadecimal digits.
+-- The one word of dtc, which must be there: six hexadecimal digits.
 unfoldable pub spelled_dtc : List (List ℕ) → Option ℕ
 spelled_dtc pairs = values_of Dtc pairs ⇒ only (hexadecimal 6)
 
--- What the words behind the word event say.
+-- What the words after the word event say.
 unfoldable pub event_line_of : List (List ℕ) → Option EventLine
 event_line_of [] = None
 event_line_of (n ∷ pairs) =

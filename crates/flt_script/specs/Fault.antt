@@ -1,4 +1,4 @@
--- How a refusal is printed, and the lines that tell why there is no script.
+-- How a refusal is printed, and the lines that say why there is no script.
 use Rattle.std.specs.Prelude.{ℕ, List, [], ◌∷◌, ◌++◌, codes}
 use Rattle.std.specs.Fmt.{decimal}
 use Rattle.flt_config.specs.declared.config.CfgFault.TheVariants.{DtcTwice, NoRoom}
@@ -35,10 +35,10 @@ abbrev pub parse_fault_text : ParseFault → List ℕ
 parse_fault_text Memory = codes "out of memory"
 parse_fault_text (At fault) = script_fault_text fault
 
--- The line that tells why bytes are no script.
+-- The line that says why bytes are no script.
 abbrev pub script_fault_line : ScriptFault → List ℕ
 script_fault_line fault = script_fault_text fault ++ 10 ∷ []
 
--- The line that tells that the source of a script failed.
+-- The line that says that the source of a script failed.
 abbrev pub unread_line : List ℕ
 unread_line = codes "read fault" ++ 10 ∷ []

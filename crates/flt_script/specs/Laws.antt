@@ -69,23 +69,23 @@ PrintedStepIsReadAgain =
     (config : Config) (step : Step) → length config.events.items ≤ EVENTS → is_step_in config step ≡ true → is_held step ≡ true
     → IsLineReadAs (step_text step) config step
 
--- What a step of a script arms is what a bench can be told.
+-- What a step of a script arms is what a bench can be armed with.
 abbrev pub EachArmCanBeMade : Type 0
 EachArmCanBeMade = (config : Config) (arm : Arm) → is_step_in config (step.Arming arm) ≡ true → CanArm arm
 
--- The cause that is told of a line is the first of the table that holds of it, and none is told where none holds.
+-- The cause that is reported for a line is the first of the table that holds of it, and none is reported where none holds.
 abbrev pub FirstCauseIsTold : Type 0
 FirstCauseIsTold =
     (dids : List DidUse) (past : List Line) (text : List ℕ)
     → cause_told (line_behind dids past text) ≡ find (cause_holds dids (behind dids past) text) causes
 
--- Line 0 is told of a script that is too large, and of no other: each other fault has its line. So a configuration that
+-- Line 0 is reported for a script that is too large, and for no other fault: each other fault has its line. So a configuration that
 -- wants room has its flash line, since the pages that are used without one suffice for each configuration.
 abbrev pub LineZeroIsLarge : Type 0
 LineZeroIsLarge =
     (dids : List DidUse) (bytes : List ℕ) (fault : ScriptFault) → IsFaulty dids bytes fault → (fault.line ≡ 0) ↔ (fault.cause ≡ Large)
 
--- The kept counts and settings of lines that were not refused are how many there are of each kind, which stand, whether a block
+-- The kept counts and settings of lines that were not refused are how many there are of each kind, which are there, whether a block
 -- is under way, and which of its lanes have a save, drain or get.
 abbrev pub AcceptedLinesAreCounted : Type 0
 AcceptedLinesAreCounted =
@@ -104,7 +104,7 @@ pub record WrittenSettingsAreRead : Type 0 where
       → line_of (with_two_numbers (codes "flash") sectors pages) ≡ Ok (line.Flash sectors pages)
   pub did : (event id : ℕ) → event < 10 ^ 10 → id < 65536 → line_of (with_number (codes "did") event ++ 32 ∷ did_text id) ≡ Ok (line.Did event id)
 
--- An event line is not of its form where a pair stands twice, where dtc does not stand, and where time stands beside what
+-- An event line is not of its form where a pair occurs twice, where dtc is missing, and where time occurs beside what
 -- belongs to a counter.
 pub record OddEventsAreRefused : Type 0 where
   pub twice : (number : List ℕ) (pairs : List (List ℕ)) → any_twice pairs ≡ true → event_line_of (number ∷ pairs) ≡ None

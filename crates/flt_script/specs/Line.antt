@@ -116,7 +116,7 @@ post_with urgent [] = None
 post_with urgent (b ∷ words) =
     number b ⇒ λ block. bytes_of 32 words ⇒ λ bytes. Some (line.Step (step.Post urgent block (record { items = bytes })))
 
--- What the words behind the keyword say, row by row.
+-- What the words after the keyword say, row by row.
 unfoldable pub line_with : Keyword → List (List ℕ) → Option Line
 line_with keyword.Pass words = report_with Passed words
 line_with keyword.Fail words = report_with Failed words
@@ -153,7 +153,7 @@ abbrev pub is_comment : List ℕ → Bool
 is_comment [] = false
 is_comment (first ∷ more) = first == 35
 
--- Nothing or a comment, or a keyword and what belongs behind it.
+-- Nothing or a comment, or a keyword and what belongs after it.
 unfoldable pub by_words : List (List ℕ) → Result Line LineCause
 by_words [] = Ok line.Skipped
 by_words (word ∷ words) =

@@ -1,5 +1,5 @@
 -- The script of a load: reports in four lanes, on 16 events, by a generator of numbers that begins at how many there are.
-use Rattle.std.specs.Prelude.{ℕ, zero, suc, ◌+◌, ◌*◌, ◌/◌, ◌%◌, ◌^◌, ◌==◌, pos, negsuc, List, [], ◌∷◌, ◌++◌, map, filter, Bool, true, false, None}
+use Rattle.std.specs.Prelude.{ℕ, zero, suc, ◌+◌, ◌*◌, ◌/◌, ◌%◌, ◌^◌, ◌==◌, List, [], ◌∷◌, ◌++◌, map, filter, Bool, true, false}
 use Rattle.std.proofs.Common.{inl, inr}
 use Rattle.std.specs.List.{flat_map, range_with_len}
 use Rattle.flt_config.specs.declared.config.Config.{Config}
@@ -20,11 +20,11 @@ load_event number = plain_event (0x000100 + number)
 unfoldable pub load_config : Config
 load_config = record { id = 1; memory = 16; pages = 512; blocks = 0; events = record { items = map load_event (range_with_len 0 16) } }
 
--- The number behind a number.
+-- The number after a number.
 abbrev pub next_number : ℕ → ℕ
 next_number number = (number * 1103515245 + 12345) % 2 ^ 31
 
--- The number of a report, which are counted from 1; before the first stands how many reports there are.
+-- The number of a report, which are counted from 1; before the first is how many reports there are.
 unfoldable pub load_number : ℕ → ℕ → ℕ
 load_number count zero = count
 load_number count (suc place) = next_number (load_number count place)
@@ -40,7 +40,7 @@ load_report (suc (suc (suc kind))) = PreFailed
 abbrev pub load_step : ℕ → ℕ → Step
 load_step lane number = step.Report (4 * lane + number / 65536 % 4) (load_report (number / 1048576 % 4))
 
--- What a lane reports, of so many reports in turn in all four lanes.
+-- What a lane reports, of this many reports in turn in all four lanes.
 unfoldable pub load_lane : ℕ → ℕ → ℕ → List Step
 load_lane count lane reports = map (λ place. load_step lane (load_number count (place + 1))) (filter (λ place. place % 4 == lane) (range_with_len 0 reports))
 
@@ -65,6 +65,6 @@ load_life count lanes = inl (step.Cycle 0) ∷ load_parts count lanes ++ inl ste
 abbrev pub shown_life : List (PartOf Step)
 shown_life = plain_parts (map step.Show (range_with_len 0 16))
 
--- The script of a load of so many reports, in lanes or without.
+-- The script of a load of this many reports, in lanes or without.
 abbrev pub load_script : ℕ → Bool → ScriptContent
 load_script count lanes = record { config = load_config; lives = load_life count lanes ∷ shown_life ∷ [] }

@@ -33,7 +33,7 @@ begins_step keyword.Lane = false
 begins_step keyword.End = false
 begins_step _ = true
 
--- What a line says by the keyword that it begins with and the words behind that, if it begins with one and is not refused.
+-- What a line says by the keyword that it begins with and the words after that, if it begins with one and is not refused.
 abbrev pub said_behind : Result (Option (Keyword × List (List ℕ))) LineCause → Result Line LineCause
 said_behind (Err cause) = Err cause
 said_behind (Ok None) = Ok line.Skipped
@@ -52,7 +52,7 @@ state draft = record {
   drains = draft.drains;
 }
 
--- What stands after a line, or why it is refused.
+-- What there is after a line, or why it is refused.
 unfoldable pub with_line : List DidUse → ℕ → Behind → Line → Result Behind LineCause
 with_line dids number b line = unless_refused (refusal dids b line) (added_line dids number b line)
 
@@ -60,15 +60,15 @@ with_line dids number b line = unless_refused (refusal dids b line) (added_line 
 unfoldable pub with_text : List DidUse → ℕ → Behind → List ℕ → Result Behind LineCause
 with_text dids number b text = line_of text >>= λ line. with_line dids number b line
 
--- The lanes of a block with a step more, or that it may not stand there.
+-- The lanes of a block with one more step, or that it is not allowed there.
 abbrev pub with_lane_step : Step → List (List Step) → Result (List (List Step)) LineCause
 with_lane_step step lanes = if is_step_misplaced (Some lanes) step then Err Block else Ok (in_last_lane (Some step) lanes)
 
--- What stands after the words behind a keyword, or why they are refused.
+-- What there is after the words that follow a keyword, or why they are refused.
 unfoldable pub with_words : List DidUse → ℕ → Behind → Keyword → List (List ℕ) → Result Behind LineCause
 with_words dids number b keyword words = ok_or (line_with keyword words) Form >>= λ said. with_line dids number b said
 
--- What a line's fault tells, where it is not a lack of memory.
+-- What a line's fault says, where it is not a lack of memory.
 abbrev pub line_cause_of : LineFault → Option LineCause
 line_cause_of line_faults.Memory = None
 line_cause_of (line_faults.Cause cause) = Some cause

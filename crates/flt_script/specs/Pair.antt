@@ -1,4 +1,4 @@
--- The pairs of an event line, which may stand in any order: a key, and behind it its values.
+-- The pairs of an event line, which may come in any order: a key, and after it its values.
 use Rattle.std.specs.Prelude.{ℕ, ◌+◌, List, [], ◌∷◌, take, drop, Bool, true, nat_lt, Option, option_map, unwrap_or, codes}
 use Rattle.std.specs.List.{position, count_by, list_any}
 use Rattle.std.specs.Str.{bytes_eq}
@@ -32,7 +32,7 @@ spells key word = bytes_eq word (spelling key)
 abbrev pub is_key : List ℕ → Bool
 is_key word = list_any (λ key. spells key word) keys
 
--- The pair stands more than once.
+-- The pair occurs more than once.
 abbrev pub stands_twice : Key → List (List ℕ) → Bool
 stands_twice key words = nat_lt 1 (count_by (spells key) words)
 
@@ -40,7 +40,7 @@ stands_twice key words = nat_lt 1 (count_by (spells key) words)
 abbrev pub any_twice : List (List ℕ) → Bool
 any_twice words = list_any (λ key. stands_twice key words) keys
 
--- No word stands before the first pair.
+-- No word comes before the first pair.
 abbrev pub starts_with_key : List (List ℕ) → Bool
 starts_with_key [] = true
 starts_with_key (word ∷ words) = is_key word
@@ -49,6 +49,6 @@ starts_with_key (word ∷ words) = is_key word
 abbrev pub before_key : List (List ℕ) → List (List ℕ)
 before_key words = unwrap_or (option_map (λ end. take end words) (position is_key words)) words
 
--- The words behind the place where a key stands, up to the next key.
+-- The words after the place of a key, up to the next key.
 abbrev pub values_of : Key → List (List ℕ) → Option (List (List ℕ))
 values_of key words = option_map (λ place. before_key (drop (place + 1) words)) (position (spells key) words)

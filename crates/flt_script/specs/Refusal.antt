@@ -1,4 +1,4 @@
--- A line against the lines before it: why it may not stand there.
+-- A line against the lines before it: why it is not allowed there.
 use Rattle.std.specs.Prelude.{ℕ, ◌+◌, List, [], ◌∷◌, length, find, Bool, true, false, ◌==◌, ◌&&◌, ◌||◌, nat_lt, nat_le, not, is_some, is_none, Option, Some, None, Result, Ok, Err, if◌then◌else◌}
 use Rattle.flt_config.specs.declared.TheConstants.{EVENTS}
 use Rattle.flt_config.specs.declared.config.DidUse.{DidUse}
@@ -47,14 +47,14 @@ did_refusal dids b event id = first_cause (
     (nat_le 8 (length (uses_of event b.config.events.items)), Many) ∷
     (is_none (find (is_did id) dids), Did) ∷ [])
 
--- A step between the beginning of a block and its first lane, in a lane one that may not stand there, or a save, drain or
+-- A step between the beginning of a block and its first lane, in a lane one that is not allowed there, or a save, drain or
 -- get where another lane of the block has one of them.
 abbrev pub is_step_misplaced : Option (List (List Step)) → Step → Bool
 is_step_misplaced None step = false
 is_step_misplaced (Some []) step = true
 is_step_misplaced (Some (lane ∷ lanes)) step = not (is_lane_step step) || is_store_step step && has_earlier_store (lane ∷ lanes)
 
--- A step, of at most 65,536, of which at most 64 are cut, fault or mute and 1,024 are drain, where it may stand.
+-- A step, of at most 65,536, of which at most 64 are cut, fault or mute and 1,024 are drain, where it is allowed.
 unfoldable pub step_refusal : Behind → StepLine → Option LineCause
 step_refusal b step = first_cause (
     (is_none (step_of b.config step), Range) ∷
@@ -81,7 +81,7 @@ lane_refusal b = first_cause (
 unfoldable pub end_refusal : Behind → Option LineCause
 end_refusal b = first_cause ((not (has_lane b.block), Block) ∷ [])
 
--- Why a line may not stand behind these lines, row by row.
+-- Why a line is not allowed after these lines, row by row.
 unfoldable pub refusal : List DidUse → Behind → Line → Option LineCause
 refusal dids b line.Skipped = None
 refusal dids b (line.Config id) = setting_refusal b b.places.config 65535 id
@@ -101,6 +101,6 @@ abbrev pub unless_refused : {A : Type 0} → Option LineCause → A → Result A
 unless_refused None x = Ok x
 unless_refused (Some cause) x = Err cause
 
--- What a line says that may stand behind these lines, the newest first.
+-- What a line says that is allowed after these lines, the newest first.
 unfoldable pub line_behind : List DidUse → List Line → List ℕ → Result Line LineCause
 line_behind dids past text = line_of text >>= λ line. unless_refused (refusal dids (behind dids past) line) line

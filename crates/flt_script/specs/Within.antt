@@ -1,4 +1,4 @@
--- What the lives of a script keep to. This serves the proof; the type Script tells the same of its lives.
+-- What the lives of a script keep to. This serves the proof; the type Script says the same of its lives.
 use Rattle.std.specs.Prelude.{ℕ, ◌+◌, ◌≤◌, List, length, IsTrue, sum_by}
 use Rattle.std.specs.List.{list_all}
 use Rattle.flt_config.specs.declared.config.Config.{Config}

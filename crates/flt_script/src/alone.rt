@@ -13,7 +13,7 @@ use flt_config::Config;
 use flt_step::Step;
 use std::alloc::Global;
 
-/// What a line says by itself behind a configuration that is closed.
+/// What a line says by itself after a configuration that is closed.
 #[derive(Drop)]
 pub enum AloneLine {
     /// Nothing: it is blank or a comment.
@@ -24,7 +24,7 @@ pub enum AloneLine {
     Power,
 }
 
-/// The first line of a text, without what ends it, and what stands behind it; nothing where the text has no line.
+/// The first line of a text, without what ends it, and what follows it; nothing where the text has no line.
 pub fn next_line(text: &[u8]) -> Option<(&[u8], &[u8])>
     ensures { MatchOption result (lines_of text.now ≡ []) (λ parts. lines_of text.now ≡ parts.0.now ∷ lines_of parts.1.now) }
 {
@@ -41,7 +41,7 @@ pub fn read_step(text: &[u8], config: &Config) -> Option<Step>
     step_with(keyword, words)?.step_in(config)
 }
 
-/// What the words behind a keyword say by themselves.
+/// What the words after a keyword say by themselves.
 #[tactic(auto, unfolding(crate::specs::Line::line_with))]
 fn alone_with(
     alloc: Global,
@@ -86,7 +86,7 @@ fn alone_with(
 }
 
 /// What a line says by itself under this configuration, which is closed: a step, the end of a life, or nothing. A line that configures is
-/// refused as one behind the first step of a script is, and one of a block of lanes as one that may not stand there. `Memory` says nothing
+/// refused as one after the first step of a script is, and one of a block of lanes as one that is not allowed there. `Memory` says nothing
 /// of the line.
 pub fn read_alone(alloc: Global, text: &[u8], config: &Config) -> Result<AloneLine, LineFault>
     ensures said { IsAsDefined (λ said. said) line_cause_of result (alone_in config.now text.now) }

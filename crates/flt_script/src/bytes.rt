@@ -5,7 +5,7 @@ use crate::numeral::read_hexadecimal;
 use crate::text::Words;
 use arrayvec::ArrayVec;
 
-/// One byte or more, at most so many, each of two hexadecimal digits in either case.
+/// One byte or more, at most this many, each of two hexadecimal digits in either case.
 #[tactic(auto, unfolding(crate::specs::Bytes::bytes_of))]
 pub(crate) fn read_bytes<const MOST: usize>(words: Words<'_>) -> Option<ArrayVec<u8, MOST>>
     ensures { option_map (λ bytes. bytes.items) result ≡ bytes_of MOST words.entry }

@@ -190,7 +190,7 @@ fn dtc_of(pairs: &[&[u8]]) -> Option<u32>
     }
 }
 
-/// What stands behind the word event.
+/// What follows the word event.
 #[tactic(auto, unfolding(crate::specs::Event::event_line_of))]
 pub(crate) fn event_of(words: &[&[u8]]) -> Option<EventLine>
     ensures { result ≡ event_line_of (seen words.now) }

@@ -7,8 +7,8 @@ use std::alloc::{AllocError, AllocFailed};
 use std::error::Error;
 use std::fmt;
 
-/// Why a line is refused. Where several causes hold, the first in this order is told. It displays as it stands in
-/// the line that tells a fault: one word, and for `Config` two numbers where they help.
+/// Why a line is refused. Where several causes hold, the first in this order is reported. It displays as in
+/// the line that reports a fault: one word, and for `Config` two numbers where they help.
 #[derive(Clone, Copy, Debug, PartialEq, Eq)]
 pub enum LineCause {
     /// The script has more than 1,048,576 bytes.
@@ -19,9 +19,9 @@ pub enum LineCause {
     Byte,
     /// Its first word begins no line.
     Word,
-    /// The words behind the first are not as its kind of line has them.
+    /// The words after the first are not those of its kind of line.
     Form,
-    /// It configures behind a step, a `power` or a `par`, or what is set already, or an event whose number is not the next, or a
+    /// It configures after a step, a `power` or a `par`, or what is set already, or an event whose number is not the next, or a
     /// data identifier of an event that is not there yet.
     Order,
     /// A number of a step is out of its range, or one that configures is too large for its type.
@@ -35,8 +35,8 @@ pub enum LineCause {
     Block,
     /// It names a data identifier that the table does not have.
     Did,
-    /// No line is faulty by itself or by its order, but the configuration that they write is refused. It is told at the
-    /// line that wrote what is at fault, the second's for a DTC that stands twice.
+    /// No line is faulty by itself or by its order, but the configuration that they write is refused. It is reported at
+    /// the line that wrote what is at fault, the second event's for a DTC that occurs twice.
     Config(CfgFault),
 }
 

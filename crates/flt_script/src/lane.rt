@@ -14,7 +14,7 @@ pub(crate) fn add_lane_step(
     step: Step,
 ) -> Result<(), LineFault>
     requires { used_earlier ≡ has_earlier_store (map (λ lane. lane.items) lanes.old.items) }
-    ensures given { IsAsDefined (λ _. map (λ lane. lane.items) lanes.new.items) line_cause_of result (with_lane_step step (map (λ lane. lane.items) lanes.old.items)) }
+    ensures added { IsAsDefined (λ _. map (λ lane. lane.items) lanes.new.items) line_cause_of result (with_lane_step step (map (λ lane. lane.items) lanes.old.items)) }
     ensures kept { OnErr result (map (λ lane. lane.items) lanes.new.items ≡ map (λ lane. lane.items) lanes.old.items) }
 {
     let Some(lane) = lanes.last_mut() else {
@@ -27,7 +27,7 @@ pub(crate) fn add_lane_step(
     Ok(())
 }
 
-/// Whether a step may stand in the last lane.
+/// Whether a step is allowed in the last lane.
 fn may_stand(step: &Step, used_earlier: bool) -> bool
     ensures { result ≡ not (not (is_lane_step step.now) || is_store_step step.now && used_earlier) }
 {

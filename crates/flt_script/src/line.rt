@@ -18,14 +18,11 @@ use crate::keyword::{Keyword, read_keyword};
 use crate::numeral::{read_hexadecimal, read_number};
 use crate::text::{TextLine, Words};
 use arrayvec::ArrayVec;
-use flt_config::Config;
+use flt_config::{Config, Tester};
 use flt_flash::Pattern;
 use flt_model::{REQUEST, Report};
 use flt_step::{BLOCK_BYTES, Step};
 use std::alloc::{AllocError, Global};
-
-/// The number of the last tester, D.
-const LAST_TESTER: u8 = 3;
 
 /// A step, with its numbers as they are written.
 #[derive(Drop)]
@@ -52,7 +49,7 @@ pub(crate) enum StepLine {
         value: u64,
     },
     Request {
-        tester: u8,
+        tester: Tester,
         bytes: ArrayVec<u8, REQUEST>,
     },
     Save,
@@ -119,15 +116,24 @@ impl StepLine {
                     fulfilled: value == 1,
                 })
             }
-            StepLine::Request { tester, bytes } if tester <= LAST_TESTER && !bytes.is_empty() => {
-                Some(Step::Request { tester, bytes })
+            StepLine::Request { tester, bytes } => {
+                if bytes.is_empty() {
+                    return None;
+                }
+                Some(Step::Request {
+                    tester: tester.get(),
+                    bytes,
+                })
             }
             StepLine::Save => Some(Step::Save),
             StepLine::Post {
                 urgent,
                 block,
                 bytes,
-            } if block < blocks && !bytes.is_empty() && bytes.len() <= BLOCK_BYTES => {
+            } => {
+                if blocks <= block || bytes.is_empty() || BLOCK_BYTES < bytes.len() {
+                    return None;
+                }
                 Some(Step::Post {
                     urgent,
                     block: block as u8,
@@ -141,7 +147,14 @@ impl StepLine {
                 Some(arm) => Some(Step::Arming(arm)),
                 None => None,
             },
-            _ => None,
+            StepLine::Report { .. }
+            | StepLine::Show { .. }
+            | StepLine::Cycle { .. }
+            | StepLine::Tick { .. }
+            | StepLine::Signal { .. }
+            | StepLine::Enable { .. }
+            | StepLine::Get { .. }
+            | StepLine::Ask { .. } => None,
         }
     }
 }
@@ -225,17 +238,17 @@ pub(crate) fn did_with(mut words: Words<'_>) -> Option<(u64, u16)>
     Some((read_number(event)?, read_hexadecimal(4, id)? as u16))
 }
 
-/// The tester that a letter from A to D names, by its number.
-fn read_tester(word: &[u8]) -> Option<u8>
+/// The tester that a letter from A to D names.
+fn read_tester(word: &[u8]) -> Option<Tester>
     ensures { result ≡ tester_of word.now }
 {
     match word {
-        [letter @ b'A'..=b'D'] => Some(*letter - b'A'),
+        [letter @ b'A'..=b'D'] => Some(Tester::new(*letter - b'A')),
         _ => None,
     }
 }
 
-/// The tester that the first word names, and the bytes of its request, which the other words spell. It stands apart, so that
+/// The tester that the first word names, and the bytes of its request, which the other words spell. It is separate, so that
 /// other steps do not pay for the room of its bytes.
 #[tactic(auto, unfolding(crate::specs::Line::request_with))]
 #[inline(never)]
@@ -247,8 +260,8 @@ fn request_with(mut words: Words<'_>) -> Option<StepLine>
     Some(StepLine::Request { tester, bytes })
 }
 
-/// The application block that the first word names, and the bytes of a job for it, which the other words spell. It stands
-/// apart as `request_with` does.
+/// The application block that the first word names, and the bytes of a job for it, which the other words spell. It is
+/// separate as `request_with` is.
 #[tactic(auto, unfolding(crate::specs::Line::post_with))]
 #[inline(never)]
 fn post_with(urgent: bool, mut words: Words<'_>) -> Option<StepLine>
@@ -263,7 +276,7 @@ fn post_with(urgent: bool, mut words: Words<'_>) -> Option<StepLine>
     })
 }
 
-/// What the words behind a keyword that begins a step say.
+/// What the words after a keyword that begins a step say.
 #[tactic(auto, unfolding(crate::specs::Line::line_with, crate::specs::Line::report_with))]
 #[inline(always)]
 pub(crate) fn step_with(keyword: Keyword, words: Words<'_>) -> Option<StepLine>
@@ -342,7 +355,7 @@ pub(crate) fn step_with(keyword: Keyword, words: Words<'_>) -> Option<StepLine>
     Some(step)
 }
 
-/// What the words behind the word event say.
+/// What the words after the word event say.
 pub(crate) fn event_with(alloc: Global, words: Words<'_>) -> Result<Option<EventLine>, AllocError>
     ensures { IfOk result (λ event. event ≡ event_line_of words.entry) }
 {
@@ -350,7 +363,7 @@ pub(crate) fn event_with(alloc: Global, words: Words<'_>) -> Result<Option<Event
     Ok(event_of(&words))
 }
 
-/// The keyword that a line begins with and the words behind it, or nothing where it is blank or a comment.
+/// The keyword that a line begins with and the words after it, or nothing where it is blank or a comment.
 #[tactic(auto, unfolding(crate::specs::Line::line_of, crate::specs::Line::by_words))]
 #[inline(always)]
 pub(crate) fn first_word(line: TextLine<'_>) -> Result<Option<(Keyword, Words<'_>)>, LineCause>

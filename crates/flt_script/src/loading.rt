@@ -22,8 +22,8 @@ const LOAD_LANES: u32 = 4;
 /// The DTC of the first event of a load.
 const FIRST_DTC: u32 = 0x00_0100;
 
-/// The script of a load: a life of `cycle 0`, so many reports on 16 events and a save, and a life in which each event is shown.
-/// The reports come from a generator of numbers; they stand in four lanes of a block or, without lanes, one lane's behind the
+/// The script of a load: a life of `cycle 0`, `count` reports on 16 events and a save, and a life in which each event is shown.
+/// The reports come from a generator of numbers; they are in four lanes of a block or, without lanes, one lane's after the
 /// other's. `count` is from 1 to 60,000.
 pub fn load(alloc: Global, count: u32, lanes: bool) -> Result<Script, AllocError>
     requires some { 1 ≤ count }
@@ -63,7 +63,7 @@ fn load_config() -> Config
     }
 }
 
-/// The number behind a number of the generator.
+/// The number after a number of the generator.
 fn next_number(number: u32) -> u32
     ensures { result ≡ next_number number }
 {
@@ -93,7 +93,7 @@ fn load_step(lane: u32, number: u32) -> Step
     }
 }
 
-/// What stands in a list for a step.
+/// What a list has for a step.
 trait OfStep: Drop {
     ghost of: { Step → Self };
 

@@ -17,7 +17,7 @@ const SCRIPT_LENGTH: usize = 1_048_576;
 /// Reads a script of at most 1,048,576 bytes, in the language of `docs/SCRIPT.md`. Its events may use the data
 /// identifiers of the table, each with its width there.
 ///
-/// An `At` tells the first faulty line and why it is refused; where no line is faulty, the first fault of the
+/// An `At` gives the first faulty line and why it is refused; where no line is faulty, the first fault of the
 /// configuration that the lines write, at the line that wrote what is at fault. `Memory` says nothing of the bytes.
 /// After either nothing is kept of them. The bytes are not copied, and the time is linear in their number.
 #[tactic(auto, unfolding(crate::specs::Script::script_of))]

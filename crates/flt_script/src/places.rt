@@ -35,7 +35,7 @@ impl Places {
         self.events.get(event as usize).copied().unwrap_or(0)
     }
 
-    /// The line at which a fault of the configuration is told, or 0 where no line wrote what is at fault.
+    /// The line at which a fault of the configuration is reported, or 0 where no line wrote what is at fault.
     pub(crate) fn line_of_fault(&self, fault: CfgFault) -> u32
         ensures { result ≡ line_of_fault self.now fault }
     {

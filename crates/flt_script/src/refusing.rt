@@ -1,4 +1,4 @@
-//! The lines that tell why there is no script.
+//! The lines that say why there is no script.
 ghost use Rattle.std.specs.Prelude.{◌≡◌, ◌++◌, OnOk, OnErr};
 ghost use Rattle.flt_io.specs.Written.{Writes};
 ghost use Rattle.flt_script.specs.Fault.{script_fault_line, unread_line};

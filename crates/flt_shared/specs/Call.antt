@@ -1,4 +1,4 @@
--- What a call of the locked status machine tells.
+-- What a call of the locked status machine answers.
 use Rattle.std.specs.Prelude.{ℕ, List, Result, reverse}
 use Rattle.arrayvec.specs.ArrayVec.{ArrayVec}
 use Rattle.flt_model.specs.Start.{Start, History}
@@ -43,15 +43,15 @@ ResponseBytes = ArrayVec ℕ
 abbrev pub with_response : ReplyKind → ResponseBytes → Reply
 with_response kind response = reply_with kind response.items
 
--- The whole answer of a call, likewise.
+-- The whole answer of a call, in the same way.
 abbrev pub whole : Answer ReplyKind → ResponseBytes → Answer Reply
 whole told response = turn.whole with_response told response
 
--- A call stands at the place that it was told, and its reply is the machine's after the calls before that place.
+-- A call is at the place that its answer gives, and its reply is the machine's after the calls before that place.
 abbrev pub IsCall : Seat → Seat → Op → Answer Reply → Type 0
 IsCall before after op told = turn.IsCall MayBeAsked reply_after before after op told
 
--- What a call tells, whether it is made or refused.
+-- What a call answers, whether it is made or refused.
 abbrev pub Calls : Seat → Seat → Op → Result (Answer Reply) (HistoryFull Op) → Type 0
 Calls before after op result = turn.Calls (IsCall before after op) before after op result
 

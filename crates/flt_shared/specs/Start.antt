@@ -8,6 +8,6 @@ use Rattle.flt_dcm.specs.Unit.{UnitView}
 abbrev pub start_of : UnitView → DemStart
 start_of unit = record { config = unit.dem.durable.config; base = unit.base }
 
--- Some start. It stands where nobody looks.
+-- Some start, for a place where it is never read.
 abbrev pub some_start : DemStart
 some_start = fresh record { id = 0; memory = 0; pages = 0; blocks = 0; events = record { items = [] } }

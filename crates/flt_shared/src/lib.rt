@@ -1,6 +1,6 @@
 //! The status machine under the ticket lock: each call is answered at its own place of one journal, whichever lane makes it.
 //!
-//! Stands on `flt_turn` and `flt_dcm`. What lies under the lock calls no function: the table of data identifiers stands beside the
+//! It depends on `flt_turn` and `flt_dcm`. What lies under the lock calls no function: the table of data identifiers is beside the
 //! lock, and is lent to each call. The layer above uses the eight calls of `DemLock`, or `call_into`, whose answer is small, each with
 //! the one word `IsCall`. Read `specs/Call.antt` first.
 #![tactic(auto)]

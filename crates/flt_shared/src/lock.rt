@@ -27,7 +27,7 @@ use std::sync::Wait;
 /// The right to call a locked status machine.
 pub type DemSeat = Seat<Guarded>;
 
-/// What a call was told. At `Err` its seat has no call left, and nothing was changed: make the call on a seat that has calls left.
+/// The answer to a call. At `Err` its seat has no call left, and nothing was changed: make the call on a seat that has calls left.
 pub type DemAnswer = Result<Answer<Reply>, HistoryFull<Op>>;
 
 /// What a lock leaves when it ends.
@@ -38,7 +38,7 @@ pub struct DemEnd {
     pub unit: BoxedUnit,
 }
 
-/// The status machine for many lanes: its state is under the lock, and its table of data identifiers stands beside it.
+/// The status machine for many lanes: its state is under the lock, and its table of data identifiers is beside it.
 #[derive(Drop)]
 pub struct DemLock {
     pub turn: Turn<Guarded>,
@@ -86,7 +86,8 @@ impl DemLock {
     }
 
     /// Makes a call when its turn comes. The answer has the kind of the reply, and the bytes of a response are written in place of what
-    /// `response` holds, so that no reply of `RESPONSE` bytes is moved. Where the answer is no response, `response` holds anything. A snapshot writes nothing here.
+    /// `response` holds, so that no reply of `RESPONSE` bytes is moved. Where the answer is no response, `response` holds anything. A
+    /// snapshot writes nothing here.
     #[inline(always)]
     pub fn call_into<R: Wait>(
         &self,

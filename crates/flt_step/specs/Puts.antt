@@ -1,8 +1,8 @@
--- A text that is put behind what a vector holds.
+-- A text that is put after what a vector holds.
 use Rattle.std.specs.Prelude.{◌≡◌, ℕ, ◌≤◌, ◌+◌, List, ◌++◌, take, Vec, vec_len, vec_capacity}
 use Rattle.std.specs.Global.{Global}
 
--- The text was put, in at most so many bytes, and the vector has as much room as before, or more.
+-- The text was put, in at most this many bytes, and the vector has as much room as before, or more.
 pub record Puts (old new : Vec ℕ Global) (text : List ℕ) (most : ℕ) : Type 0 where
   pub items : new.items ≡ old.items ++ text
   pub len : vec_len new ≤ vec_len old + most

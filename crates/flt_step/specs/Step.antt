@@ -1,4 +1,4 @@
--- A step of a script: the ranges of its numbers, and where it may stand; and how many there are of each kind.
+-- A step of a script: the ranges of its numbers, and where it is allowed; and how many there are of each kind.
 use Rattle.std.specs.Prelude.{ℕ, List, Bool, true, false, ◌&&◌, nat_lt, nat_le, length, sum_by, count_by}
 use Rattle.std.proofs.Common.{inl, inr}
 use Rattle.std.specs.List.{list_all, list_any}
@@ -31,7 +31,7 @@ is_step_in config (step.Get block) = nat_lt block config.blocks
 is_step_in config (step.Ask block) = nat_lt block config.blocks
 is_step_in config (step.Arming arm) = is_arm_in arm
 
--- A step that may stand in a lane: none of cut, fault and mute.
+-- A step that is allowed in a lane: none of cut, fault and mute.
 abbrev pub is_lane_step : Step → Bool
 is_lane_step (step.Arming arm) = false
 is_lane_step _ = true
@@ -51,7 +51,7 @@ has_store_step steps = list_any is_store_step steps
 abbrev pub store_lanes : List (List Step) → ℕ
 store_lanes lanes = count_by has_store_step lanes
 
--- Each step of a lane is one that may stand there, with its numbers in their ranges.
+-- Each step of a lane is one that is allowed there, with its numbers in their ranges.
 abbrev pub is_lane_in : Config → List Step → Bool
 is_lane_in config steps = list_all (λ step. is_step_in config step && is_lane_step step) steps
 
@@ -88,7 +88,7 @@ abbrev pub arms_of_step : Step → ℕ
 arms_of_step (step.Arming arm) = 1
 arms_of_step _ = 0
 
--- How many of them a part has; in lanes they do not stand.
+-- How many of them a part has; lanes have none.
 abbrev pub arms_of_part : PartOf Step → ℕ
 arms_of_part (inl step) = arms_of_step step
 arms_of_part (inr lanes) = 0

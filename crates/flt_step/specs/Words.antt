@@ -12,7 +12,7 @@ use Rattle.flt_model.specs.declared.call.Report.TheVariants.{Passed, Failed, Pre
 use Rattle.flt_step.specs.declared.step.Step.{Step}
 use Rattle.flt_step.specs.declared.step.Step.TheVariants as step
 
--- The letter of a tester, A to D.
+-- The letter of a tester, A to D; D also above 3, which no step in its ranges has.
 abbrev pub letter_of : ℕ → ℕ
 letter_of tester = 65 + min tester 3
 
@@ -20,7 +20,7 @@ letter_of tester = 65 + min tester 3
 abbrev pub two_digits : ℕ → List ℕ
 two_digits byte = digit_glyph true (byte / 16) ∷ digit_glyph true (byte % 16) ∷ []
 
--- Bytes, each behind a space.
+-- Bytes, each after a space.
 abbrev pub spaced : List ℕ → List ℕ
 spaced bytes = flat_map (λ byte. 32 ∷ two_digits byte) bytes
 

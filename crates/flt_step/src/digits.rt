@@ -106,7 +106,7 @@ fn spell(bytes: &[u8], text: &mut [u8])
     }
 }
 
-/// Puts bytes, each behind a space.
+/// Puts bytes, each after a space.
 fn put_spaced(bytes: &[u8], out: &mut Vec<u8>)
     requires { vec_len out.old + 3 * length bytes.now ≤ vec_capacity out.old }
     ensures items { out.new.items ≡ out.old.items ++ spaced bytes.now }

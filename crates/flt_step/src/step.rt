@@ -78,7 +78,7 @@ pub enum Part {
 }
 
 impl Step {
-    /// Whether it may stand in a lane: it is none of `cut`, `fault` and `mute`.
+    /// Whether it is allowed in a lane: it is none of `cut`, `fault` and `mute`.
     pub fn is_lane_step(&self) -> bool
         ensures { result ≡ is_lane_step self.now }
     {

@@ -51,7 +51,7 @@ fn put_enable(condition: u8, fulfilled: bool, out: &mut Vec<u8>)
     put_number(u32::from(fulfilled), out);
 }
 
-/// Puts the words of a request, in at most 52 bytes.
+/// Puts the words of a request, in at most 52 bytes. A tester above 3, which no step in its ranges has, is put as D.
 fn put_request(tester: u8, bytes: &ArrayVec<u8, REQUEST>, out: &mut Vec<u8>)
     requires { vec_len out.old + 52 ≤ vec_capacity out.old }
     ensures { Puts out.old out.new (step_text (Step.Request tester bytes.now)) 52 }

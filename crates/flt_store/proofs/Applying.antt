@@ -20,10 +20,14 @@ use Rattle.flt_store.specs.Cause.{IsWithinOwn}
 use Rattle.flt_store.specs.Started.{IsStarted}
 use Rattle.flt_store.specs.declared.store.Store.{Store}
 use Rattle.flt_store.specs.Known.{Knows}
-use Rattle.flt_store.specs.Store.{driver_of, commit_of, kept_of, is_settled, IsRunning, Gets}
+use Rattle.flt_store.specs.Store.{driver_of, commit_of, kept_of, is_settled, IsAlive, IsRunning, Gets}
 use Rattle.flt_store.proofs.Causes.{borne_stays}
 use Rattle.flt_store.proofs.Running.{served_on}
 use Rattle.flt_store.proofs.Started.{AreApplications, KeepsGenerations, sound_still, started_still}
+
+-- A block of the configuration of a store that runs is below the limit of all configurations.
+pub below_limit : {B : Type 0} {b : Ghosts B} {block : ℕ} {store : Store B b} → (c : Config) × (block < c.blocks) × IsAlive c store → block < applications
+below_limit (c, below, alive) = let most = alive.running.served.valid_config.valid.blocks in omega (arith, below, most)
 
 -- Bytes were put into an application block of the configuration, and nothing else was written.
 pub record Puts (c : Config) (block : ℕ) (raw : List ℕ) (before after : BlocksState) : Type 0 where
@@ -79,7 +83,7 @@ module _ {c : Config} {block : ℕ} {raw : List ℕ} {before after : BlocksState
     excess = borne_on;
   }
 
--- A store runs on behind a put.
+-- A store runs on after a put.
 pub put_runs : {B : Type 0} {b : Ghosts B} {c : Config} {block : ℕ} {raw : List ℕ} (before after : Store B b) → Puts c block raw (driver_of before) (driver_of after) → Follows (driver_of before) (driver_of after)
     → (is_settled after ≡ is_settled before) × (commit_of after ≡ commit_of before) × (kept_of after ≡ kept_of before) → (h s : Generation) → IsRunning c h s before → IsRunning c h s after
 put_runs {c = c} before after puts follows (settled, commit, kept) h s running = record {

@@ -73,7 +73,7 @@ module _ {c : Config} {before after : BlocksState} (tries : TriesMark c before a
   pub borne_with_mark : (found : Option CommitCopy) (g : Generation) → Begins c before.value found g → IsBorne c after.value
   borne_with_mark found g begins = borne_marked tries (borne_of c before.value found g begins)
 
-  -- No copy was found, and the mark stands.
+  -- No copy was found, and the mark is there.
   pub none_started : ((commit : Content) → MarkAllows c (before.value mark_number) commit → HasMark c after.value) → (g : Generation) → Begins c before.value None g → IsStarted c after.value None g
   none_started marked g begins = let now = begins_marked None g begins in record {
     mark = marked missing begins.0.mark;
@@ -109,13 +109,13 @@ module _ {B : Type 0} {b : Ghosts B} {c : Config} {before middle after : Nvm B b
   begun_applications block below = mended_applications mends block below ∙ applications_marked begun.tries block below
 
   pub begun_writes : StoreWrites (driver_of before) (driver_of after) result
-  begun_writes = writes_on (driver_of before) (driver_of middle) (driver_of after) result begun.tries.follows (mended_writes mends)
+  begun_writes = writes_on (driver_of before) (driver_of middle) (driver_of after) result begun.tries.keeps_driver (mended_writes mends)
 
   pub begun_unmended : IsErrOf result Flash → IsCommitUnmended (driver_of before) (driver_of after)
-  begun_unmended told = commit_from (driver_of before) (driver_of middle) (driver_of after) begun.tries.follows begun.tries.others (commit_unmended mends told)
+  begun_unmended told = commit_from (driver_of before) (driver_of middle) (driver_of after) begun.tries.keeps_driver begun.tries.others (commit_unmended mends told)
 
   pub begun_stuck : IsErrOf result SequenceSpent → IsCommitStuck (driver_of before) (driver_of after)
-  begun_stuck told = commit_stuck_from (driver_of before) (driver_of middle) (driver_of after) begun.tries.follows begun.tries.others (commit_stuck mends told)
+  begun_stuck told = commit_stuck_from (driver_of before) (driver_of middle) (driver_of after) begun.tries.keeps_driver begun.tries.others (commit_stuck mends told)
 
 -- What was restored is where a start-up begins.
 begins_at : (c : Config) → IsGiven c → (before after : BlocksState) (found : Option CommitCopy) (state : Persist) → IsRestored c before after found state → Begins c before.value found (generation found state)
@@ -146,7 +146,7 @@ begins_of c given before after found state same restored =
     let values : before.value ≡ after.value = λ i number. sym (same number) i in
     subst (λ (value : ℕ → Content). Begins c value found (generation found state)) values (begins_at c given before after found state restored)
 
--- So the copy that was found stands.
+-- So the copy that was found is there.
 found_at : (c : Config) (before after : BlocksState) (found : Option CommitCopy) (state : Persist) → IsRestored c before after found state → IsFoundIn c before.value found
 found_at c before after None state restored = tt
 found_at c before after (Some found) state restored = ⊎_elim (λ by_either. by_either.1.1) (λ by_second. by_second.1.1) restored
@@ -172,7 +172,7 @@ judged_in c first second third fourth judged same before after =
     values : second.value ≡ first.value
     values i number = same number i
 
--- The number of the generation that was restored, told of its commit.
+-- The number of the generation that was restored, in words of its commit.
 pub same_generation : (found : Option CommitCopy) (state : Persist) (number : ℕ) → (generation found state).number ≡ number → generation found state ≡ record { number = number; state = state }
 same_generation None state number is i = record { number = is i; state = state }
 same_generation (Some found) state number is i = record { number = is i; state = state }

@@ -20,10 +20,10 @@ use Rattle.flt_store_model.proofs.Pages.{borne_has_room}
 use Rattle.flt_store_model.specs.Form.{commit_length}
 use Rattle.flt_store.specs.Cause.{FailsThrice, HasRoom, IsWithinOwn, StoreWrites}
 
--- Calls behind which Ok was answered, no write, and some writes and then more.
+-- Calls after which Ok was answered, no write, and some writes and then more.
 pub calls_done : {T : Type 0} (before after : BlocksState) (value : T) → Follows before after → StoreWrites {T = T} before after (Ok value)
 calls_done before after value follows = record {
-  follows = follows;
+  keeps_driver = follows;
   flash = λ told. absurd (cc told);
   full = λ live needed told. absurd (cc told);
   stuck = λ told. absurd (cc told);
@@ -35,7 +35,7 @@ no_write state = calls_done state state tt (no_call state)
 
 pub writes_on : {T : Type 0} (before middle after : BlocksState) (result : Result T BlockFault) → Follows before middle → StoreWrites middle after result → StoreWrites before after result
 writes_on before middle after result first then_ = record {
-  follows = more_calls before middle after first then_.follows;
+  keeps_driver = more_calls before middle after first then_.keeps_driver;
   flash = λ told. (let rose = then_.flash told in let counts = first.counts in omega (arith, rose, counts));
   full = then_.full;
   stuck = then_.stuck;
@@ -48,7 +48,7 @@ module _ (before after : BlocksState) (result : Result (Unit {0}) BlockFault) (c
 
   pub one_write : (number : ℕ) (asked : Content) (size : ℕ) → size ≤ 96 → Gives before after number asked size result → StoreWrites before after result
   one_write number asked size short gives = record {
-    follows = calls.follows;
+    keeps_driver = calls.keeps_driver;
     flash = three;
     full = λ live needed told. (size, short, gives.full live needed told);
     stuck = λ told. (number, size, short, gives.spent told);
@@ -57,7 +57,7 @@ module _ (before after : BlocksState) (result : Result (Unit {0}) BlockFault) (c
 
   pub both_written : (id : ℕ) (asked : Content) (size : ℕ) → size ≤ 96 → GivesBoth before after id asked size result → StoreWrites before after result
   both_written id asked size short gives = record {
-    follows = calls.follows;
+    keeps_driver = calls.keeps_driver;
     flash = three;
     full = λ live needed told. (size, short, gives.full live needed told);
     stuck = λ told. ⊎_elim (λ first. (driver_number id 0, size, short, first)) (λ second. (driver_number id 1, size, short, second)) (gives.spent told);
@@ -67,7 +67,7 @@ module _ (before after : BlocksState) (result : Result (Unit {0}) BlockFault) (c
 -- A read, which is failed by the flash or by a fault of the image alone.
 pub one_read : {T : Type 0} (before after : BlocksState) (result : Result T BlockFault) → ReadsAlone before after result → FlashTakesThree before after result → StoreWrites before after result
 one_read before after result reads three = record {
-  follows = reads.calls.follows;
+  keeps_driver = reads.calls.keeps_driver;
   flash = three;
   full = λ live needed told. absurd (reads.never_full.full live needed told);
   stuck = λ told. absurd (reads.never_full.spent told);
@@ -77,7 +77,7 @@ one_read before after result reads three = record {
 -- The answer of another type has the same causes.
 pub writes_as : {S T : Type 0} (before after : BlocksState) (fault : BlockFault) → StoreWrites {T = S} before after (Err fault) → StoreWrites {T = T} before after (Err fault)
 writes_as {S} {T} before after fault writes = record {
-  follows = writes.follows;
+  keeps_driver = writes.keeps_driver;
   flash = λ told. writes.flash (again Flash told);
   full = λ live needed told. writes.full live needed (again (Full live needed) told);
   stuck = λ told. writes.stuck (again SequenceSpent told);
@@ -87,7 +87,7 @@ writes_as {S} {T} before after fault writes = record {
     again : (other : BlockFault) → IsErrOf {T = T} (Err fault) other → IsErrOf {T = S} (Err fault) other
     again other told = let same : fault ≡ other = cc told in ap Err same
 
--- An answer that hands on the fault of the writes, and one behind writes that answered Ok.
+-- An answer that hands on the fault of the writes, and one after writes that answered Ok.
 pub writes_handed : {S T : Type 0} (before after : BlocksState) (result : Result S BlockFault) (answer : Result T BlockFault) (fault : BlockFault) → result ≡ Err fault → IsErrAnd answer (λ e. e ≡ fault)
     → StoreWrites before after result → StoreWrites before after answer
 writes_handed before after result (Ok value) fault was made writes = absurd made
@@ -95,9 +95,9 @@ writes_handed {S} {T} before after result (Err told) fault was made writes =
     writes_as {S = S} {T = T} before after told (subst (λ (r : Result S BlockFault). StoreWrites before after r) (was ∙ ap Err (sym made)) writes)
 
 pub writes_done : {S T : Type 0} (before after : BlocksState) (result : Result S BlockFault) (value : T) → StoreWrites before after result → StoreWrites {T = T} before after (Ok value)
-writes_done before after result value writes = calls_done before after value writes.follows
+writes_done before after result value writes = calls_done before after value writes.keeps_driver
 
--- What stands and what is written stays within the bounds.
+-- What is there and what is written stays within the bounds.
 pub none_written : (c : Config) (value : ℕ → Content) → IsWithinOwn c value value
 none_written c value number = inl refl
 
@@ -138,7 +138,7 @@ pub was_flash : {T : Type 0} (c : Config) → IsGiven c → (before after : Bloc
     → IsTrue before.has_mounted → IsBorne c after.value → (fault ≡ SequenceSpent → ⊥) → fault ≡ Flash
 was_flash {T} c given before after Flash writes all room has borne other = refl
 was_flash {T} c given before after (Full live needed) writes all room has borne other =
-    let full = writes.full live needed refl in absurd (never_full c given before after all room writes.follows borne full.0 live needed full.1 full.2)
+    let full = writes.full live needed refl in absurd (never_full c given before after all room writes.keeps_driver borne full.0 live needed full.1 full.2)
 was_flash {T} c given before after SequenceSpent writes all room has borne other = absurd (other refl)
 was_flash {T} c given before after (Damaged sector page) writes all room has borne other = absurd (writes.mounted has sector page refl)
 

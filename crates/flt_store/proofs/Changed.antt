@@ -53,7 +53,7 @@ module _ (c : Config) (kept bytes_of : ℕ → List ℕ) (old new : Persist) (to
       subst (λ (commit : Commit). KeepsIndices c old new one commit) by_two
       (indices one next (subst (λ (commit : Option Commit). KnowsNamed c commit kept old) is knows) (subst (λ (commit : Option Commit). IsNext c commit kept bytes_of next) is follows))
 
--- What was told apart differs.
+-- What was distinguished differs.
 differs : (one two : List ℕ) → one ≢ two → bytes_eq one two ≡ false
 differs one two apart = elim (cases_Bool (bytes_eq one two)) [
   | inl same ↦ absurd (apart ((bytes_eq-Decides one two).0 same))

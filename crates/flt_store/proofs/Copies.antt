@@ -76,7 +76,7 @@ tried_by c before after raw copy at h s new sound within either others =
     (λ two. first_tried c before.value after.value raw h s new sound two.1 agree excess (others second_commit (λ e. (let is = two.0 in omega (arith, e, is)))) (subst tried two.0 either))
     at
 
--- A read of the commit changed nothing, and gave so many bytes of this copy.
+-- A read of the commit changed nothing, and gave this many bytes of this copy.
 pub record ReadsCommit (before after : BlocksState) (n copy : ℕ) (out : List ℕ) : Type 0 where
   pub same : SameValues before after
   pub found : IsCopyRead before after (take n out) copy

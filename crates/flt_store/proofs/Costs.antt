@@ -96,9 +96,9 @@ module _ (number : ℕ) (asked : Content) (size : ℕ) where
   follows_by : (count : ℕ) (before after : BlocksState) (result : Result (Unit {0}) BlockFault) → Tries count (Changing number asked size) before after result → Follows before after
   unfolding Tries
   follows_by zero before after result tries = absurd tries
-  follows_by (suc zero) before after result tries = tries.calls.follows
-  follows_by (suc (suc more)) before after result (inl ends) = ends.0.calls.follows
-  follows_by (suc (suc more)) before after result (inr (between, failed, rest)) = more_calls before between after failed.calls.follows (follows_by (suc more) between after result rest)
+  follows_by (suc zero) before after result tries = tries.calls.keeps_driver
+  follows_by (suc (suc more)) before after result (inl ends) = ends.0.calls.keeps_driver
+  follows_by (suc (suc more)) before after result (inr (between, failed, rest)) = more_calls before between after failed.calls.keeps_driver (follows_by (suc more) between after result rest)
 
   fresh_by : (count : ℕ) (before after : BlocksState) → Tries count (Changing number asked size) before after (Ok tt) → IsFalse after.is_stale
   unfolding Tries
@@ -126,7 +126,7 @@ module _ (number : ℕ) (asked : Content) (size : ℕ) where
   }
     where
       never : NoFault before after → ⊥
-      never unfailed = first_unfailed before between after failed.calls.follows (follows_by (suc more) between after result rest) unfailed (failed.calls.flash refl)
+      never unfailed = first_unfailed before between after failed.calls.keeps_driver (follows_by (suc more) between after result rest) unfailed (failed.calls.flash refl)
 
   pub job_spends : (most : ℕ) → size ≤ 96 → (before after : BlocksState) (result : Result (Unit {0}) BlockFault) → GivesInAJob number asked size before after result → Spends most before after (record_pages size) most
   job_spends most short before after result job = spends_by most short 3 before after result job

@@ -1,4 +1,4 @@
--- What failed behind a mount, told of the whole start-up.
+-- What failed after a mount, in words of the whole start-up.
 use Rattle.std.proofs.Common.{◌≡◌, ◌⊎◌, inl, inr, ℕ, ◌-◌, ◌≤◌, Bool, true, false, List, length, Some, Err, ◌∙◌, refl, sym, subst, arith}
 use Rattle.std.specs.Prelude.{IsTrue, IsFalse}
 use Rattle.flt_flash.specs.Content.{bytes}
@@ -69,7 +69,7 @@ module _ (before middle after : BlocksState) (so_far : Follows before middle) (s
 not_stuck : (fault : BlockFault) → start_fault_of fault ≡ Flash → fault ≡ Stuck → ⊥
 not_stuck fault is stuck = let told : start_fault_of Stuck ≡ Flash = subst (λ (f : BlockFault). start_fault_of f ≡ Flash) stuck is in absurd (cc told)
 
--- A write that is told as a fault of the flash was failed by it.
+-- A write that is reported as a fault of the flash was failed by it.
 pub was_flash_of_write : {T : Type 0} (c : Config) → IsGiven c → (before after : BlocksState) (fault : BlockFault) → StoreWrites {T = T} before after (Err fault) → before.numbers ≡ numbers → HasRoom c before.room
     → IsTrue before.has_mounted → IsBorne c after.value → start_fault_of fault ≡ Flash → fault ≡ FlashFault
 was_flash_of_write {T} c given before after fault writes all room has borne is = was_flash {T = T} c given before after fault writes all room has borne (not_stuck fault is)

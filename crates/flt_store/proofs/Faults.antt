@@ -159,7 +159,7 @@ refused_by_mount c before after (Full live needed) mounts = absurd (mounts.never
 refused_by_mount c before after Stuck mounts = absurd (mounts.never_full.spent refl)
 refused_by_mount c before after (DamagedPage sector page) mounts = let damaged = mounts.calls.damaged sector page refl in (damaged.0, damaged.1, mounts.values)
 
--- What was judged behind a mount was judged in the whole start-up.
+-- What was judged after a mount was judged in the whole start-up.
 module _ {B : Type 0} {b : Ghosts B} (c : Config) (before middle after : Store B b) (follows : Follows (driver_of before) (driver_of middle)) (same : SameValues (driver_of before) (driver_of middle))
     (undamaged : (driver_of before).damage ≡ None) where
   pub judged_through : (judged : Result Generation Fault) → IsJudged c (driver_of middle) (driver_of after) judged → IsJudged c (driver_of before) (driver_of after) judged

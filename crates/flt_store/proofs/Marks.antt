@@ -21,7 +21,7 @@ use Rattle.flt_restore.specs.Restored.{IsMarkDue}
 pub record TriesMark (c : Config) (before after : BlocksState) : Type 0 where
   pub tried : IsMarkTried c before.value after.value
   pub others : OthersKept mark_number before after
-  pub follows : Follows before after
+  pub keeps_driver : Follows before after
 
 module _ {c : Config} {before after : BlocksState} (tries : TriesMark c before after) where
   own_mark : own_pages c mark_number ≡ 3
@@ -60,7 +60,7 @@ module _ {c : Config} {before after : BlocksState} (tries : TriesMark c before a
   pub keeps_marked : KeepsGenerations c before.value after.value
   keeps_marked = record { low = λ number from below. tries.others number (λ same. omega (arith, same, from)); mark = mark_by; applications = good_marked; excess = borne_marked }
 
--- A mark that is allowed and has not to be written stands in the version that is written.
+-- A mark that is allowed and need not be written is there in the version that is written.
 pub stands_anew : (c : Config) (content commit : Content) → MarkAllows c content commit → (IsMarkDue (mark_of c) content → ⊥) → content ≡ bytes (mark_bytes (mark_of c))
 stands_anew c missing commit allows never = absurd (never (inl refl))
 stands_anew c invalid commit allows never = absurd allows

@@ -29,7 +29,7 @@ module _ {B : Type 0} {b : Ghosts B} (c : Config) (before after : Store B b) (no
   unjudged : (fault : Fault) → IsJudged c (driver_of before) (driver_of after) (Err fault) → SameValues (driver_of before) (driver_of after) → IsAlive c after → ⊥
   unjudged fault judged same alive =
       let value = (driver_of before).value in
-      let given = alive.running.served.given in
+      let given = alive.running.served.valid_config in
       let sound = sound_kept c (driver_of after).value value alive.held alive.spare (λ number. sym (same number)) alive.running.sound in
       let by_held : held c value ≡ Ok alive.held = (held_stands c given value alive.held).1 sound.holds in
       let by_spare : spare c value ≡ Ok alive.spare = (spare_stands c given value alive.spare).1 sound.spares in

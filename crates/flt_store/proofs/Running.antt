@@ -19,7 +19,7 @@ use Rattle.flt_store.specs.declared.store.Store.{Store}
 use Rattle.flt_store.specs.Store.{driver_of, commit_of, kept_of, is_settled, IsServed, IsRunning, IsAlive, Saves, MayHaveSaved}
 
 pub served_on : (c : Config) (before after : BlocksState) → Follows before after → IsServed c before → IsServed c after
-served_on c before after follows served = record { given = served.given; room = subst (HasRoom c) (sym follows.room) served.room; mounted = follows.once_mounted served.mounted }
+served_on c before after follows served = record { valid_config = served.valid_config; room = subst (HasRoom c) (sym follows.room) served.room; mounted = follows.once_mounted served.mounted }
 
 pub ok_map : {T E : Type 0} {P Q : T → Type 0} (result : Result T E) → ((x : T) → P x → Q x) → IfOk result P → IfOk result Q
 ok_map (Ok x) to p = to x p
@@ -122,13 +122,13 @@ pub unsettled_runs : {B : Type 0} {b : Ghosts B} (c : Config) (h s : Generation)
     → IsRunning c h s store
 unsettled_runs c h s store unsettled served mark sound = record { served = served; mark = mark; sound = sound; settled = λ yes. absurd (cc (yes, unsettled)); known = λ yes. absurd (cc (yes, unsettled)) }
 
--- A store runs behind a save, whatever that answered.
+-- A store runs after a save, whatever that answered.
 pub alive_after : {B : Type 0} {b : Ghosts B} (c : Config) (h s : Generation) (state : Persist) (before after : Store B b) (result : Result ℕ SaveFault)
     → IfOk result (λ number. Saves c h s state number before after) → OnErr result (MayHaveSaved c h s state before after) → IsAlive c after
 alive_after c h s state before after (Ok number) saved failed = record { held = _; spare = _; running = saved.running }
 alive_after c h s state before after (Err fault) saved failed = record { held = failed.now_held; spare = failed.now_spare; running = failed.running }
 
--- A store runs on behind reads.
+-- A store runs on after reads.
 pub reads_run : {B : Type 0} {b : Ghosts B} {c : Config} (before after : Store B b) → SameValues (driver_of before) (driver_of after) → Follows (driver_of before) (driver_of after)
     → (is_settled after ≡ is_settled before) × (commit_of after ≡ commit_of before) × (kept_of after ≡ kept_of before) → (h s : Generation) → IsRunning c h s before → IsRunning c h s after
 reads_run {c = c} before after same follows (settled, commit, kept) h s running =

@@ -40,7 +40,7 @@ module _ (c : Config) where
         let same_id : other ≡ id = omega (arith, old, new, same) in
         moved other written (let index : index_in commit id ≡ index_in next other = omega (arith, same, same_id) in ap (index_in commit) same_id ∙ index))
 
-    -- The generation before still stands.
+    -- The generation before is still stored.
     pub settled : (g : Generation) → IsWithinOwn c before after → IsStarted c before current g → IsStarted c after current g
     settled g within started = record {
       mark = kept_low mark_number (omega arith) ∙ started.mark;

@@ -128,7 +128,7 @@ module _ {c : Config} {before after : ℕ → Content} (keeps : KeepsGenerations
     excess = keeps.excess started.excess;
   }
 
--- What stands where the two images agree but for the copies of the commit.
+-- What holds where the two images agree but for the copies of the commit.
 module _ (c : Config) (before after : ℕ → Content) (agree : AgreeButForCommit before after) where
   above_commit : (id index : ℕ) → IsTrue (is_used c id) → index ≤ 1 → after (number_of id index) ≡ before (number_of id index)
   above_commit id index used small = let range = used_range c id used in agree (number_of id index) (λ same. omega (arith, range.0, same)) (λ same. omega (arith, range.0, same))

@@ -74,7 +74,7 @@ form_of c value (Some commit) g names = names.form
 
 -- The blocks of a generation were written, and then the copies of its commit were tried.
 pub record TriesCommit (c : Config) (state : Persist) (current : Option Commit) (kept_bytes bytes_of : ℕ → List ℕ) (next : Commit) (before middle after : BlocksState) (raw : List ℕ) (result : Result (Unit {0}) BlockFault) : Type 0 where
-  pub follows : IsNext c current kept_bytes bytes_of next
+  pub is_next : IsNext c current kept_bytes bytes_of next
   pub most : number_in current + 1 < 2 ^ 32
   pub fits : Fits c state
   pub told : AreBlocksOf c state bytes_of
@@ -108,9 +108,9 @@ module _ {c : Config} {state : Persist} {current : Option Commit} {kept_bytes by
   module _ (g : Generation) (started : IsStarted c before.value current g) (known : MayKnow c current kept_bytes g.state) where
     names : NamesOf c middle.value (Some next) (next_generation current state)
     names = record {
-      form = next_form c current kept_bytes bytes_of next tries.follows tries.most (form_of c before.value current g started.names);
-      number = tries.follows.number;
-      blocks = blocks_hold c current next bytes_of before.value middle.value tries.only kept_bytes g state tries.follows tries.told tries.stand started.names known;
+      form = next_form c current kept_bytes bytes_of next tries.is_next tries.most (form_of c before.value current g started.names);
+      number = tries.is_next.number;
+      blocks = blocks_hold c current next bytes_of before.value middle.value tries.only kept_bytes g state tries.is_next tries.told tries.stand started.names known;
       fits = tries.fits;
     }
 

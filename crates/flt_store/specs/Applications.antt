@@ -1,5 +1,5 @@
 -- What a put and a get of an application block need, and what they leave.
-use Rattle.std.specs.Prelude.{◌≡◌, ℕ, ◌<◌, ◌≤◌, Bool, List, length, Result, IfOk, IsErrOf, IsOk, IsTrue, OnErr, OnOk}
+use Rattle.std.specs.Prelude.{◌≡◌, ℕ, ◌≤◌, Bool, List, length, Result, IfOk, IsErrOf, IsOk, IsTrue, OnErr, OnOk}
 use Rattle.flt_flash.specs.Content.{bytes}
 use Rattle.flt_flash.specs.Blocks.{BlocksState}
 use Rattle.flt_flash.specs.Calls.{OthersKept}
@@ -7,7 +7,7 @@ use Rattle.flt_flash.specs.declared.blocks.Blocks.{Ghosts}
 use Rattle.flt_nvm.specs.Leaves.{IsEither}
 use Rattle.flt_config.specs.declared.config.Config.{Config}
 use Rattle.flt_store_model.specs.Form.{application_length}
-use Rattle.flt_store_model.specs.Layout.{applications, application_number}
+use Rattle.flt_store_model.specs.Layout.{application_number}
 use Rattle.flt_store_model.specs.Holding.{Generation}
 use Rattle.flt_store.specs.declared.fault.PutFault.{PutFault}
 use Rattle.flt_store.specs.declared.fault.PutFault.TheVariants.{Flash, SequenceSpent}
@@ -15,9 +15,8 @@ use Rattle.flt_store.specs.declared.store.Store.{Store}
 use Rattle.flt_store.specs.Cause.{FailsThrice}
 use Rattle.flt_store.specs.Store.{Gets, IsRunning, IsUnhindered, driver_of}
 
--- The number of an application block, and 1 to 32 bytes for it.
-pub record CanPut (block : ℕ) (raw : List ℕ) : Type 0 where
-  pub within : block < applications
+-- An application block takes 1 to 32 bytes.
+pub record CanPut (raw : List ℕ) : Type 0 where
   pub least : 1 ≤ length raw
   pub most : length raw ≤ application_length
 

@@ -28,7 +28,7 @@ IsWithinOwn c before after = (number : ℕ) → (after number ≡ before number)
 
 -- Calls that wrote records of at most 96 bytes, each fault of which has its cause.
 pub record StoreWrites {T : Type 0} (before after : BlocksState) (result : Result T BlockFault) : Type 0 where
-  pub follows : Follows before after
+  pub keeps_driver : Follows before after
   pub flash : IsErrOf result Flash → FailsThrice before after
   pub full : (live needed : ℕ) → IsErrOf result (Full live needed) → (size : ℕ) × (size ≤ 96) × IsFull after size live needed
   pub stuck : IsErrOf result SequenceSpent → IsStuck after

@@ -61,14 +61,14 @@ IsDark c before after = Tries 3 Mounts before after (Err Flash) ⊎ IsUnready c 
 abbrev pub IsUnrestarted : BlocksState → BlocksState → Type 0
 IsUnrestarted before after = IsUnreadable before after commit_id ⊎ IsCommitUnmended before after
 
--- A save before failed, and which generation stands could not be found out; or, from where both copies of the commit name one
+-- A save before failed, and which generation is stored could not be found out; or, from where both copies of the commit name one
 -- generation, the flash failed three times.
 abbrev pub IsUnsaved : Config → Bool → BlocksState → BlocksState → Type 0
 IsUnsaved c was_settled before after =
     (IsFalse was_settled × IsUnrestarted before after)
     ⊎ ((middle : BlocksState) × Follows before middle × (g : Generation) × IsSound c middle.value g g × FailsThrice middle after)
 
--- A fault of the blocks, which is judged behind a mount.
+-- A fault of the blocks, which is judged after a mount.
 abbrev pub IsOfBlocks : StartFault → Type 0
 IsOfBlocks StartFlash = ⊥
 IsOfBlocks (Damaged (Page sector page)) = ⊥

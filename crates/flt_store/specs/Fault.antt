@@ -1,4 +1,4 @@
--- How a fault of a block is told: as a lack of sequence numbers where it is that, else as a fault of the flash.
+-- How a fault of a block is reported: as a lack of sequence numbers where it is that, else as a fault of the flash.
 use Rattle.std.specs.Prelude.{◌≡◌, ◌≢◌}
 use Rattle.flt_flash.specs.declared.blocks.BlockFault.{BlockFault}
 use Rattle.flt_flash.specs.declared.blocks.BlockFault.TheVariants.{SequenceSpent as Stuck}

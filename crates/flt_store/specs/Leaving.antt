@@ -5,7 +5,7 @@ use Rattle.flt_flash.specs.Calls.{Follows}
 use Rattle.flt_config.specs.declared.config.Config.{Config}
 use Rattle.flt_store_model.specs.Holding.{Generation, IsSound, OldOrNew, SameApplications}
 
--- The driver behind such a call: no application block has changed, and after Ok it is not stale.
+-- The driver after such a call: no application block has changed, and after Ok it is not stale.
 pub record LeavesDriver {T E : Type 0} (before after : BlocksState) (result : Result T E) : Type 0 where
   pub applications : SameApplications before.value after.value
   pub not_stale : OnOk result (IsFalse after.is_stale)

@@ -38,7 +38,7 @@ pub record WritesOwn {T : Type 0} (c : Config) (before after : BlocksState) (res
   pub not_stale : IsFalse before.is_stale → OnOk result (IsFalse after.is_stale)
   pub writes : StoreWrites before after result
 
--- A state can be saved behind this commit: a number is left for it, and it fits.
+-- A state can be saved after this commit: a number is left for it, and it fits.
 pub record CanSaveBehind (c : Config) (current : Option Commit) (state : Persist) : Type 0 where
   pub number : number_in current < last_number
   pub fits : Fits c state
@@ -48,12 +48,12 @@ pub record IsKnownCurrent (c : Config) (value : ℕ → Content) (current : Opti
   pub started : IsStarted c value current g
   pub known : MayKnow c current kept g.state
 
--- A generation was written behind another: both copies of the commit name it after Ok, and each names one of the two whatever was answered.
+-- A generation was written after another: both copies of the commit name it after Ok, and each names one of the two whatever was answered.
 pub record WritesBehind (c : Config) (g new : Generation) (after : ℕ → Content) (result : Result Commit BlockFault) : Type 0 where
   pub started : IfOk result (λ commit. IsStarted c after (Some commit) new)
   pub either : OldOrNew c after g g new
 
--- The blocks of a generation and its commit were written, and no other: the mark stands as it was, and each fault has its cause.
+-- The blocks of a generation and its commit were written, and no other: the mark is as it was, and each fault has its cause.
 pub record WritesGeneration {T : Type 0} (before after : BlocksState) (result : Result T BlockFault) : Type 0 where
   pub driver : LeavesDriver before after result
   pub mark : after.value mark_number ≡ before.value mark_number
@@ -65,7 +65,7 @@ pub record FormsNext (c : Config) (current : Option Commit) (old : ℕ → List 
   pub next : IfOk result (IsNext c current old new)
   pub rewritten : IfOk result (λ commit. AreCopiesOf commit after)
 
--- What the writes of a generation cost on a driver that was not stale, where each record costs at most so many operations.
+-- What the writes of a generation cost on a driver that was not stale, where each record costs at most this many operations.
 abbrev pub SpendsOnSave : Config → Option Commit → (ℕ → List ℕ) → (ℕ → List ℕ) → BlocksState → BlocksState → Type 0
 SpendsOnSave c current old new before after = (most : ℕ) → IsFalse before.is_stale
     → Spends most before after (6 + pages_to_write c current old new) ((length (used_ids c) + 2) * most)
@@ -89,7 +89,7 @@ module _ {B : Type 0} {b : Ghosts B} where
     pub unrestarted : IsErrOf result Flash → IsUnrestarted (driver_of before) (driver_of after)
     pub sequence : IsErrOf result SequenceSpent → IsStuck (driver_of after)
 
-  -- A state was saved behind the generation that both copies of the commit name, or the save failed for its cause.
+  -- A state was saved after the generation that both copies of the commit name, or the save failed for its cause.
   pub record SavesBehind (c : Config) (g : Generation) (state : Persist) (before after : Store B b) (result : Result ℕ SaveFault) : Type 0 where
     pub saved : IfOk result (λ number. (number ≡ g.number + 1) × IsRunning c (numbered number state) (numbered number state) after)
     pub failed : OnErr result (OldOrNew c (driver_of after).value g g (numbered (g.number + 1) state))
@@ -100,8 +100,8 @@ module _ {B : Type 0} {b : Ghosts B} where
     pub first : g.number ≡ 0 → OnOk result (StandAtZero c (driver_of after).value)
     pub rewritten : OnOk result (AreRewritten c (driver_of after).value)
 
-  -- What the image of a running store holds behind a save: after Ok the new generation, by both copies; after an error of the old two and the
-  -- new one some two.
+  -- What the image of a running store holds after a save: after Ok the new generation, by both copies; after an error of the old two and
+  -- the new one some two.
   pub record AnswersSave (c : Config) (held spare : Generation) (state : Persist) (before after : Store B b) (result : Result ℕ SaveFault) : Type 0 where
     pub saved : IfOk result (λ number. Saves c held spare state number before after)
     pub failed : OnErr result (MayHaveSaved c held spare state before after)
@@ -117,11 +117,11 @@ module _ {B : Type 0} {b : Ghosts B} where
 
   -- Where a save puts the blocks, and what it costs.
   pub record WritesChanges (c : Config) (held : Generation) (state : Persist) (before after : Store B b) (result : Result ℕ SaveFault) : Type 0 where
-    -- A block whose bytes stayed stands where it stood; where a save failed before, unless the flash failed three times in this one.
+    -- A block whose bytes stayed is where it was; where a save failed before, unless the flash failed three times in this one.
     pub places : IsUndisturbed before after → OnOk result (KeepsPlaces c held.state state (driver_of before).value (driver_of after).value)
     -- The first save writes each block at index 0.
     pub first : held.number ≡ 0 → OnOk result (StandAtZero c (driver_of after).value)
-    -- The commit is written in version 2, also where that before it stood in version 1.
+    -- The commit is written in version 2, also where that before it was in version 1.
     pub rewritten : OnOk result (AreRewritten c (driver_of after).value)
     -- What a save costs that follows no failed one.
     pub by_changes : IsTrue (is_settled before) → held.number ≢ 0 → IsFalse (driver_of before).is_stale

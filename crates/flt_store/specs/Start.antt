@@ -22,7 +22,7 @@ abbrev pub Begins : Config → (ℕ → Content) → Option CommitCopy → Gener
 Begins c value None g = Holds c value missing g × (value first_commit ≡ missing) × (only_bytes (value second_commit) ≡ missing)
 Begins c value (Some found) g = Holds c value (bytes found.bytes.items) g × IsCopy c value found
 
--- The copy that was found stands in the image.
+-- The copy that was found is in the image.
 abbrev pub IsFoundIn : Config → (ℕ → Content) → Option CommitCopy → Type 0
 IsFoundIn c value None = Unit {0}
 IsFoundIn c value (Some found) = IsCopy c value found

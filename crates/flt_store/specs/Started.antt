@@ -13,7 +13,7 @@ use Rattle.flt_store_model.specs.Successor.{IsContentOf, number_in}
 use Rattle.flt_store.specs.Cause.{FailsThrice}
 use Rattle.flt_restore.specs.Restored.{IsMarkDue}
 
--- The mark of the configuration stands in the image, in the version that is written.
+-- The mark of the configuration is in the image, in the version that is written.
 abbrev pub HasMark : Config → (ℕ → Content) → Type 0
 HasMark c value = value mark_number ≡ bytes (mark_bytes (mark_of c))
 
@@ -22,7 +22,7 @@ abbrev pub NamesOf : Config → (ℕ → Content) → Option Commit → Generati
 NamesOf c value None g = g ≡ first_generation c
 NamesOf c value (Some commit) g = CommitNames c value commit g
 
--- The mark stands, and both copies of the commit, or neither before the first save, name the generation, by the same bytes.
+-- The mark is there, and both copies of the commit, or neither before the first save, name the generation, by the same bytes.
 pub record IsStarted (c : Config) (value : ℕ → Content) (commit : Option Commit) (g : Generation) : Type 0 where
   pub mark : HasMark c value
   pub first : IsContentOf commit (value first_commit)
@@ -44,6 +44,6 @@ abbrev pub StartsEither : Config → BlocksState → BlocksState → Option Comm
 StartsEither c before after commit held spare =
     IsStarted c after.value commit held ⊎ (IsStarted c after.value commit spare × FailsThrice before after)
 
--- The mark is as it was, or stands anew where it had to be written.
+-- The mark is as it was, or was written anew where it had to be written.
 abbrev pub IsMarkTried : Config → (ℕ → Content) → (ℕ → Content) → Type 0
 IsMarkTried c before after = (after mark_number ≡ before mark_number) ⊎ (IsMarkDue (mark_of c) (before mark_number) × HasMark c after)

@@ -30,9 +30,9 @@ pub record IsMountedFor (c : Config) (driver : BlocksState) : Type 0 where
   pub mounted : IsTrue driver.has_mounted
   pub not_stale : IsFalse driver.is_stale
 
--- The mark of a configuration was written where that was due, or stands as it was.
+-- The mark of a configuration was written where that was due, or is as it was.
 pub record WritesMark (c : Config) (before after : BlocksState) (result : Result (Unit {0}) BlockFault) : Type 0 where
-  -- Over an image that is not another configuration's it stands after Ok.
+  -- Over an image that is not another configuration's it is there after Ok.
   pub marked : (commit : Content) → MarkAllows c (before.value mark_number) commit → OnOk result (HasMark c after.value)
   pub tried : IsMarkTried c before.value after.value
   pub unwritten : IsErrOf result BlockFlash → IsMarkUnwritten c before after

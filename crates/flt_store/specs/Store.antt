@@ -28,7 +28,7 @@ Gets (bytes held) found out = IsTrue found × (out ≡ held)
 
 -- The driver was mounted, and leaves a valid configuration its room.
 pub record IsServed (c : Config) (driver : BlocksState) : Type 0 where
-  pub given : IsGiven c
+  pub valid_config : IsGiven c
   pub room : HasRoom c driver.room
   pub mounted : IsTrue driver.has_mounted
 

@@ -19,6 +19,6 @@ AreSized c bytes_of = (id : ℕ) → IsTrue (is_used c id) → length (bytes_of 
 abbrev pub IsBlockWritten : Commit → (ℕ → List ℕ) → (ℕ → Content) → ℕ → Type 0
 IsBlockWritten next bytes_of value id = value (number_of id (index_in next id)) ≡ bytes (bytes_of id)
 
--- The blocks that are written for the next commit stand where it names them.
+-- The blocks that are written for the next commit are where it names them.
 abbrev pub AreWritten : Config → Option Commit → Commit → (ℕ → List ℕ) → (ℕ → Content) → Type 0
 AreWritten c current next bytes_of value = (id : ℕ) → IsTrue (is_written c current next id) → IsBlockWritten next bytes_of value id

@@ -91,7 +91,7 @@ fn write_blocks<B: Blocks + Drop>(
 }
 
 /// Writes a generation: the blocks whose bytes are not those that were saved, or all where there is no commit, then the first
-/// copy of its commit, then the second. The bytes of its blocks are put into `blocks`, in place of what stands there.
+/// copy of its commit, then the second. The bytes of its blocks are put into `blocks`, in place of what is there.
 pub(crate) fn write_generation<B: Blocks + Drop>(
     nvm: &mut Nvm<B>,
     config: &ValidConfig,

@@ -8,7 +8,7 @@ use crate::Store;
 use flt_flash::Blocks;
 
 /// A call is unhindered where the count of faults rose by less than three and is not at its end, and a sequence number is left
-/// behind it.
+/// after it.
 pub fn few_faults_hinder_none<B: Blocks + Drop>(before: &Store<B>, after: &Store<B>)
     requires few { (driver_of after.now).device.faults < (driver_of before.now).device.faults + 3 }
     requires counted { (driver_of after.now).device.faults < last_count }
@@ -16,7 +16,7 @@ pub fn few_faults_hinder_none<B: Blocks + Drop>(before: &Store<B>, after: &Store
     ensures { IsUnhindered before.now after.now }
 {}
 
-/// Where only records of more than 96 bytes can't be written any more, no save is told so.
+/// Where only records of more than 96 bytes can't be written any more, no save answers that.
 pub fn long_records_stop_no_save<B: Blocks + Drop>(store: &Store<B>)
     requires { (number size : ℕ) → IsTrue ((driver_of store.now).is_stuck number size) → 96 < size }
     ensures { IsStuck (driver_of store.now) → ⊥ }

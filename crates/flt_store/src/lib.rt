@@ -1,6 +1,6 @@
 //! Saved generations of the durable state: start-up, saves, and the application blocks, over the blocks of any driver.
 //!
-//! It stands on `flt_nvm`, by whose calls it reads and writes, on `flt_image` for the bytes, and on the definitions of
+//! It depends on `flt_nvm`, by whose calls it reads and writes, on `flt_image` for the bytes, and on the definitions of
 //! `flt_store_model`. The contract that the layer above uses is `Store`'s: whatever operation of the device fails, the image
 //! names the generation before or the new one. Read `specs/Store` first, then `specs/Saving` and `specs/Starting`.
 #![tactic(auto)]

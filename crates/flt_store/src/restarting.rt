@@ -1,4 +1,4 @@
-//! Which generation stands after a save that failed, and the repair of the commit's copies.
+//! Which generation is stored after a save that failed, and the repair of the commit's copies.
 ghost use Rattle.std.specs.Prelude.{◌≡◌, ◌-◌, length, IsFalse, IfOk, OnOk, Some};
 ghost use Rattle.flt_flash.specs.Content.{bytes as holding};
 ghost use Rattle.flt_flash.specs.Calls.{Follows};
@@ -15,8 +15,8 @@ use flt_nvm::{Got, Nvm};
 use flt_store_model::COMMIT_ID;
 
 /// Makes both copies of the commit hold what the first has, or the second where the first has no bytes or can't be read;
-/// answers their commit, or none before the first save. It stands apart from the saves that find the store settled: in line, each of them
-/// would clear the room for the blocks that are read behind it.
+/// answers their commit, or none before the first save. It is kept apart from the saves that find the store settled: in line, each of them
+/// would clear the room for the blocks that are read after it.
 #[inline(never)]
 pub(crate) fn restart<B: Blocks + Drop>(
     nvm: &mut Nvm<B>,

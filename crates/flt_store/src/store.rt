@@ -75,7 +75,7 @@ impl<B: Blocks + Drop> Store<B> {
         }
     }
 
-    /// Finds out which generation stands, and what its blocks have, where a save failed.
+    /// Finds out which generation is stored, and what its blocks have, where a save failed.
     fn settle(&mut self, config: &ValidConfig) -> Result<(), SaveFault>
         requires alive { IsAlive config.now self.old }
         ensures finds { WhileRunning config.now self.old (λ held spare. FindsGeneration config.now held spare self.old self.new result) }
@@ -124,14 +124,14 @@ impl<B: Blocks + Drop> Store<B> {
     }
 
     /// Saves a state that fits as the next generation, and answers its number. Where an earlier save of this life failed, it first
-    /// finds out which generation stands, makes both copies of its commit equal, and reads the blocks that this commit names.
+    /// finds out which generation is stored, makes both copies of its commit equal, and reads the blocks that this commit names.
     ///
     /// A used block whose bytes are those of the generation before is not written, and keeps its index. The first save writes all, and
     /// a save after a failed one those that could not be read in three tries.
     ///
     /// After `Ok` the image names the new generation, by both copies. After an error it names the generation before or the new one.
     /// `Spent` comes where the generation before has the number 2^32 - 1; so it does where the flash failed less than three times, unless
-    /// an earlier save failed and the copies can't be made equal for want of a sequence number. It is `Ok` where that has another number,
+    /// an earlier save failed and the copies can't be made equal for lack of a sequence number. It is `Ok` where that has another number,
     /// the flash failed less than three times and a sequence number is left.
     ///
     /// At `Err` the store still runs. After `Flash` save again, with the newest state. After `Spent` or `SequenceSpent` another image is
@@ -157,7 +157,7 @@ impl<B: Blocks + Drop> Store<B> {
         self.nvm.boots_left()
     }
 
-    /// How many arms stand, 64 at most.
+    /// How many arms there are, 64 at most.
     pub fn armed(&self) -> u8
         ensures { result ≡ (driver_of self.now).device.bench.armed }
     {

@@ -104,7 +104,7 @@ named_alone c content held is commit read raw same named form reads =
 
 -- ---- the blocks that it names
 module _ (c : Config) (value : ℕ → Content) (commit : Commit) where
-  -- So many blocks are read, or one of them is the first that is not.
+  -- This many blocks are read, or one of them is the first that is not.
   pub data PartsAre (count : ℕ) : Type 0 where
     all_read : (p : Persist) → parts_read c value commit count ≡ Ok p → PartsAre count
     failed : (before : ℕ) → before < count → (p : Persist) → parts_read c value commit before ≡ Ok p → IsTrue (is_used c (3 + before))

@@ -20,7 +20,7 @@ use Rattle.flt_store_model.specs.WholeLaws.{HasImageFault, HasFirstImageFault, T
 least_of : (c : Config) → IsGiven c → 2 ≤ c.pages
 least_of c given = omega (arith, given.valid.pages.0)
 
--- Each fault of the blocks comes behind those of the pages.
+-- Each fault of the blocks comes after those of the pages.
 behind_pages : (c : Config) (value : ℕ → Content) (commit : Content) (fault : Fault) → HasFault c value commit fault → 0 < judging_order fault
 behind_pages c value commit (damaged (Page sector page)) is = absurd is
 behind_pages c value commit (damaged (Block zero)) is = omega arith

@@ -1,11 +1,11 @@
--- What is held where a device tells the first fault of its pages and what each block holds.
+-- What is held where a device gives the first fault of its pages and what each block holds.
 use Rattle.std.specs.Prelude.{◌≡◌, ℕ, Option, Some, None, Result, Err}
 use Rattle.flt_flash.specs.Content.{Content}
 use Rattle.flt_config.specs.declared.config.Config.{Config}
 use Rattle.flt_store_model.specs.declared.place.Place.TheVariants.{Page}
 use Rattle.flt_store_model.specs.Holding.{Generation, Fault, damaged, held, spare, IsSound}
 
--- A fault of the pages is told at its sector and page, and the blocks are not judged.
+-- A fault of the pages is reported at its sector and page, and the blocks are not judged.
 abbrev pub unless_damaged : Option (ℕ × ℕ) → Result Generation Fault → Result Generation Fault
 unless_damaged None judged = judged
 unless_damaged (Some place) judged = Err (damaged (Page place.0 place.1))

@@ -1,4 +1,4 @@
--- How a worked image is written: records of blocks, one behind the other, in two sectors of 64 pages.
+-- How a worked image is written: records of blocks, one after the other, in two sectors of 64 pages.
 use Rattle.std.specs.Prelude.{◌≡◌, ℕ, zero, suc, ◌+◌, List, [], ◌∷◌, ◌++◌, length, map, take, drop, true, false, Result}
 use Rattle.flt_flash.specs.Blocks.{byte_pages, record_pages}
 use Rattle.flt_flash.specs.Content.{Content, missing, invalid, bytes, size_of}
@@ -9,7 +9,7 @@ use Rattle.flt_store_model.specs.Holding.{Generation, Fault}
 use Rattle.flt_store_model.specs.Example.{Kept}
 use Rattle.flt_store_model.specs.Image.{image_held, image_spare}
 
--- So many pages of bytes.
+-- This many pages of bytes.
 abbrev pub pieces : ℕ → List ℕ → List (List ℕ)
 pieces zero held = []
 pieces (suc left) held = piece (take 32 held) ∷ pieces left (drop 32 held)
@@ -20,7 +20,7 @@ record_pages_at page number missing = []
 record_pages_at page number invalid = says (Head number 0 false page) ∷ says (Gate number page) ∷ []
 record_pages_at page number (bytes held) = says (Head number (length held) true page) ∷ (pieces (byte_pages (length held)) held ++ says (Gate number page) ∷ [])
 
--- Records one behind the other, from a page on.
+-- Records one after the other, from a page on.
 abbrev pub records : ℕ → List Kept → List (List ℕ)
 records page [] = []
 records page (kept ∷ rest) = record_pages_at page kept.number kept.content ++ records (page + record_pages (size_of kept.content)) rest

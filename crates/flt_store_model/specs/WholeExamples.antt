@@ -29,7 +29,7 @@ blank_sector = sector_of 64 []
 abbrev pub image_saved : List Kept → List (List (List ℕ))
 image_saved kept = image_of (valid_sector 64 1 (records 2 kept)) blank_sector
 
--- An image whose older sector was left behind the first save.
+-- An image whose older sector remained after the first save.
 abbrev pub switched : List (List (List ℕ))
 switched = image_of (valid_sector 64 1 (records 2 (first_blocks ++ first_copies))) (valid_sector 64 2 (records 2 (second_blocks ++ second_copies)))
 
@@ -53,8 +53,8 @@ TwoSaves =
 abbrev pub faulty : List (List (List ℕ)) → Fault → Judged
 faulty image fault = judged image (Err fault) (Err fault)
 
--- A fault of the pages is told before one of the blocks: here a page behind the end of a log whose mark is another configuration's, and two
--- sectors of one number. Without it the block is told.
+-- A fault of the pages comes before one of the blocks: here a page after the end of a log whose mark is another configuration's, and two
+-- sectors of one number. Without it the block is reported.
 abbrev pub PagesBeforeBlocks : Type 0
 PagesBeforeBlocks =
     AreJudged small
@@ -64,7 +64,7 @@ PagesBeforeBlocks =
     ∷ faulty (image_saved first_copies) (damaged (Block 1))
     ∷ [])
 
--- What version 1 left behind a save.
+-- What version 1 left after a save.
 abbrev pub old_save : List Kept
 old_save =
     block 1 0 old_mark ∷ block 3 0 summary ∷ block 4 0 (states 0x2F) ∷ block 8 0 first_entry
@@ -74,8 +74,8 @@ old_save =
 abbrev pub started_up : List Kept
 started_up = old_save ++ block 1 0 own_mark ∷ block 8 1 (entry_content 0 2 (0x03 ∷ 0x04 ∷ [])) ∷ []
 
--- Before and behind its first save in version 1, after the mark was written anew, after the entry, after each copy of the commit; and where a
--- save was cut between the copies, and the start-up behind it could not read copy 1 and wrote copy 2, of version 1, over it.
+-- Before and after its first save in version 1, after the mark was written anew, after the entry, after each copy of the commit; and where
+-- a save was cut between the copies, and the start-up after it could not read copy 1 and wrote copy 2, of version 1, over it.
 abbrev pub OldSave : Type 0
 OldSave =
     AreJudged small

@@ -11,7 +11,7 @@ use Rattle.flt_store_model.specs.Faults.{HasFault, judging_order}
 use Rattle.flt_store_model.specs.Laws.{IsGiven}
 use Rattle.flt_store_model.specs.Image.{image_damage, image_blocks, image_held, image_spare, IsSoundImage}
 
--- What may be told of an image with this commit: where a mount first finds its pages damaged, or a fault of its blocks.
+-- What may be reported of an image with this commit: where a mount first finds its pages damaged, or a fault of its blocks.
 abbrev pub HasImageFault : Config → List (List (List ℕ)) → Content → Fault → Type 0
 HasImageFault c image commit (damaged (Page sector page)) = (look : Look) × HasFirstDamage c.pages numbers image look × (place_of look ≡ (sector, page))
 HasImageFault c image commit (damaged (Block id)) = HasFault c (image_blocks c image) commit (damaged (Block id))
@@ -22,7 +22,7 @@ pub record HasFirstImageFault (c : Config) (image : List (List (List ℕ))) (com
   pub is : HasImageFault c image commit fault
   pub first : (earlier : Fault) → judging_order earlier < judging_order fault → HasImageFault c image commit earlier → ⊥
 
--- The fault that is told is the first: that of the pages, and then those of the blocks in the order of judging.
+-- The fault that is reported is the first: that of the pages, and then those of the blocks in the order of judging.
 abbrev pub TellsFirstImageFault : (Config → List (List (List ℕ)) → Result Generation Fault) → ((ℕ → Content) → Content) → Type 0
 TellsFirstImageFault judged commit_of = (c : Config) → IsGiven c → (image : List (List (List ℕ))) (fault : Fault)
     → (judged c image ≡ Err fault) ↔ HasFirstImageFault c image (commit_of (image_blocks c image)) fault
@@ -33,7 +33,7 @@ HeldTellsFirst = TellsFirstImageFault image_held (λ value. either_copy (value f
 abbrev pub SpareTellsFirst : Type 0
 SpareTellsFirst = TellsFirstImageFault image_spare (λ value. only_bytes (value second_commit))
 
--- A generation is held exactly where no page is at fault and the generation stands in the blocks.
+-- A generation is held exactly where no page is at fault and the generation is in the blocks.
 abbrev pub HeldStandsInImage : Type 0
 HeldStandsInImage = (c : Config) → IsGiven c → (image : List (List (List ℕ))) (g : Generation)
     → (image_held c image ≡ Ok g) ↔ ((image_damage c image ≡ None) × IsHeld c (image_blocks c image) g)

@@ -34,12 +34,12 @@ pub fn saves()
     ensures { TwoSaves }
 {}
 
-/// A fault of the pages is told before one of the blocks.
+/// A fault of the pages is reported before one of the blocks.
 pub fn pages_before_blocks()
     ensures { PagesBeforeBlocks }
 {}
 
-/// What an image of version 1 holds, and what it holds after each step of a start-up and of the save behind it.
+/// What an image of version 1 holds, and what it holds after each step of a start-up and of the save after it.
 pub fn old_save()
     ensures { OldSave }
 {}

@@ -54,7 +54,7 @@ NamesAt commit [] = Unit {0}
 NamesAt commit (row ∷ rows) = (index_in commit row.0 ≡ row.1) × NamesAt commit rows
 
 -- Blocks of the configuration of 65 events: the summary, the states, the entry, and its later states in block 24. It uses neither block 9 nor 25.
--- The first save names each at index 0, whatever stood there.
+-- The first save names each at index 0, whatever was there.
 abbrev pub FirstIndices : Type 0
 FirstIndices =
     (before after : ℕ → List ℕ) (next : Commit) → IsNext many None before after next

@@ -53,7 +53,7 @@ const FAILED: u8 = 0x2F;
 
 const PASSED: u8 = 0x2E;
 
-/// A configuration of so many entries, application blocks and events.
+/// A configuration of this many entries, application blocks and events.
 fn configured(rt: &impl Abort, memory: u8, blocks: u8, count: u8) -> ValidConfig {
     let mut events = ArrayVec::new();
     for number in 0..count {

@@ -23,7 +23,7 @@ use Rattle.flt_store_model.proofs.Whole.{blocks_read, whole_read}
 use Rattle.flt_trace.specs.Base.{base_texts, base_block_text}
 
 module _ (c : Config) (p : Persist) where
-  -- What the first blocks are read as, so many of them.
+  -- What this many first blocks are read as.
   abbrev pub so_far : ℕ → Result Persist Fault
   so_far count = parts_read c (blocks_of p) zeros count
 
@@ -97,7 +97,7 @@ module _ (c : Config) (p : Persist) where
   pub texts_without : (id : ℕ) → id < end_part → is_used c id ≡ false → texts_from id ≡ texts_from (id + 1)
   texts_without id within unused = rw (from_next id within, unused) refl
 
-  -- The text at a place, and those behind it.
+  -- The text at a place, and those after it.
   pub text_at : (texts : List (List ℕ)) (place id : ℕ) (d : List ℕ) → place < length texts → id < end_part → is_used c id ≡ true → drop place texts ≡ texts_from id
       → (get_or texts place d ≡ base_block_text p id) × (drop (place + 1) texts ≡ texts_from (id + 1))
   text_at texts place id d among within used from =

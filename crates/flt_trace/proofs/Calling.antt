@@ -1,4 +1,4 @@
--- Each call of a life is one of a save, or of a step, whose answer is told at the place of the call.
+-- Each call of a life is one of a save, or of a step, whose answer is given at the place of the call.
 use Rattle.std.proofs.Common.{◌≡◌, ◌⊎◌, inl, inr, ℕ, ◌+◌, ◌≤◌, leb, List, [], ◌∷◌, ◌++◌, length, true, refl, sym, subst}
 use Rattle.std.specs.Prelude.{◌&&◌}
 use Rattle.std.specs.List.{list_all}
@@ -30,7 +30,7 @@ abbrev pub DemCall : Type 0
 DemCall = mixing.Call Op Reply
 
 module _ (c : Config) (few : length c.events.items ≤ EVENTS) where
-  -- A call of a save, or of a step whose answer is told at its place.
+  -- A call of a save, or of a step whose answer is given at its place.
   abbrev pub IsMadeAt : (ℕ → Type 0) → DemCall → Type 0
   IsMadeAt Has call = IsSaveCall call.op ⊎ (HasStep c call.op × Has call.told.place)
 
@@ -100,7 +100,7 @@ module _ (c : Config) (few : length c.events.items ≤ EVENTS) where
         wider_block (λ place. HavePlace place told) Here (λ place is. inr is) makes.1 rest,
       )
 
-  -- What is told in a piece is told in the whole.
+  -- What is given in a piece is given in the whole.
   in_front : (place : ℕ) (lane more : List Told) → HasPlace place lane → HasPlace place (lane ++ more)
   in_front place [] more has = absurd has
   in_front place (told ∷ lane) more (inl here) = inl here

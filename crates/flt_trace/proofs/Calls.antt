@@ -112,7 +112,7 @@ module _ (c : Config) (text : List ℕ) where
       let wrong : None ≡ Some (length (decimal call.lane)) = none ∙ ap (position is_space) is.printed ∙ space_behind call.lane is.words is.lane in
       absurd (cc wrong)
 
-  -- What stands before the first space, and what behind it.
+  -- What is before the first space, and what is after it.
   pub parted : (at : ℕ) → Some at ≡ position is_space text → (call : Entry Op) (is : IsCallText c call text) → (take at text ≡ decimal call.lane) × (drop (at + 1) text ≡ is.words)
   parted at found call is =
       let same : Some at ≡ Some (length (decimal call.lane)) = found ∙ ap (position is_space) is.printed ∙ space_behind call.lane is.words is.lane in

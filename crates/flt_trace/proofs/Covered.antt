@@ -1,4 +1,4 @@
--- The places that the calls of a lane are told are all of its places in the journal: they rise, and there are as many.
+-- The places that the calls of a lane are given are all of its places in the journal: they rise, and there are as many.
 use Rattle.std.proofs.Common.{◌≡◌, ◌⊎◌, inl, inr, ℕ, zero, suc, ◌+◌, ◌≤◌, Bool, true, false, List, [], ◌∷◌, length, Option, Some, eq-eqb, arith, refl, sym, ap, subst, ◌∙◌}
 use Rattle.std.specs.Prelude.{slice_get, ◌==◌}
 use Rattle.flt_turn.specs.declared.vault.Entry.{Entry}
@@ -27,13 +27,13 @@ module _ {O : Type 0} (n : ℕ) where
   covered_none (e ∷ piece) none (suc place) op there = covered_none piece (let fewer = no_fewer e piece (e.lane == n) refl in omega (arith, none, fewer)) place op there
 
 module _ {O R : Type 0} where
-  -- A place is told.
+  -- A place is given.
   abbrev pub Tell : ℕ → List (Call O R) → Type 0
   Tell place [] = ⊥
   Tell place (call ∷ calls) = (call.told.place ≡ place) ⊎ Tell place calls
 
 module _ {O R : Type 0} (n : ℕ) where
-  -- A call stands in a piece of a journal that begins at a place.
+  -- A call is in a piece of a journal that begins at a place.
   pub record StandsIn (low : ℕ) (piece : List (Entry O)) (call : Call O R) : Type 0 where
     pub behind : ℕ
     pub place : call.told.place ≡ low + behind
@@ -48,7 +48,7 @@ module _ {O R : Type 0} (n : ℕ) where
   one_behind low e piece call later zero place there = absurd (omega (arith, later, place))
   one_behind low e piece call later (suc k) place there = record { behind = k; place = place ∙ omega arith; there = there }
 
-  -- Calls at later places stand behind the first entry.
+  -- Calls at later places come after the first entry.
   all_behind : (low : ℕ) (e : Entry O) (piece : List (Entry O)) (calls : List (Call O R)) → Rise (low + 1) calls → StandIn low (e ∷ piece) calls → StandIn (low + 1) piece calls
   unfolding Rise
   all_behind low e piece [] rise stand = tt
@@ -87,7 +87,7 @@ module _ {O R : Type 0} (n : ℕ) where
   few low [] (call ∷ calls) rise stand = let none = stand.0.there in absurd cc
   few low (e ∷ piece) (call ∷ calls) rise stand = few_at low e piece call calls stand.0.behind stand.0.place stand.0.there rise stand (few (low + 1) piece)
 
-  -- Where there are as many, each place of the lane is told to one of them.
+  -- Where there are as many, each place of the lane is given to one of them.
   covered_here : (low : ℕ) (e : Entry O) (piece : List (Entry O)) (call : Call O R) (calls : List (Call O R)) → call.told.place ≡ low + 0 → slice_get (e ∷ piece) 0 ≡ Some (entry n call.op)
       → Rise low (call ∷ calls) → StandIn low (e ∷ piece) (call ∷ calls) → length (calls_of n (e ∷ piece)) ≤ length (call ∷ calls) → ((calls : List (Call O R)) → Rise (low + 1) calls → StandIn (low + 1) piece calls → length (calls_of n piece) ≤ length calls → (place : ℕ) (op : O) → slice_get piece place ≡ Some (entry n op) → Tell ((low + 1) + place) calls)
       → (place : ℕ) (op : O) → slice_get (e ∷ piece) place ≡ Some (entry n op) → Tell (low + place) (call ∷ calls)

@@ -41,7 +41,7 @@ use Rattle.flt_trace.proofs.Paired.{EachCall, parts_give, parts_paired}
 abbrev due_of : Start → History → Journal → List (List ℕ)
 due_of start past journal = map reply_text (answers start past (ops_of journal))
 
--- At the place of a call stands the text of the machine's answer to it.
+-- At the place of a call is the text of the machine's answer to it.
 due_at : (start : Start) (past : History) (journal : Journal) (place : ℕ) (e : Entry Op) → slice_get journal place ≡ Some e
     → (place < length (due_of start past journal)) × (get_or (due_of start past journal) place [] ≡ reply_text (answer start (reverse (ops_before place journal) ++ past) e.op))
 due_at start past [] place e is = absurd cc
@@ -262,7 +262,7 @@ module _ (start : Start) (parts : List (PartOf Step)) (own : List Told) (lanes :
       let made = in_blocks (λ n. IsMade′) e.lane blocks (by_parts start.config life.events 1 parts own lanes blocks life.within life.is.dem.made) in
       let tells : Tell place calls =
       subst (λ p. Tell p calls) (let zero : 0 + place ≡ place = omega arith in zero)
-      (covered e.lane 0 journal calls (life.is.dem.rising e.lane) (stand_in e.lane calls told) (follows_many e.lane blocks journal life.is.dem.follows) place e.op is) in
+      (covered e.lane 0 journal calls (life.is.dem.rising e.lane) (stand_in e.lane calls told) (follows_many e.lane blocks journal life.is.dem.in_order) place e.op is) in
       found (λ call. IsToldIn e.lane call × IsMade′ call) place calls (each_both (IsToldIn e.lane) IsMade′ calls told made) tells
 
   op_is : (place : ℕ) (e : Entry Op) (call : DemCall) → slice_get journal place ≡ Some e → call.told.place ≡ place → IsToldIn e.lane call → call.op ≡ e.op

@@ -11,7 +11,7 @@ use Rattle.flt_report.specs.Answer.{reply_text}
 use Rattle.flt_trace.specs.Answered.{with_told, with_lane, with_lanes}
 use Rattle.flt_trace.proofs.Each.{Each}
 
--- An answer was told at this place.
+-- An answer was given at this place.
 abbrev pub IsToldAt : ℕ → Told → Type 0
 IsToldAt place (Dem told) = told.place ≡ place
 IsToldAt place _ = ⊥

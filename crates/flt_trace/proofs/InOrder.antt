@@ -1,4 +1,4 @@
--- The tokens of a trace whose keys stand in their order are those of one value, which is read of them.
+-- The tokens of a trace whose keys are in their order are those of one value, which is read of them.
 use Rattle.std.proofs.Common.{◌≡◌, ℕ, List, [], ◌∷◌, ◌++◌, Option, Some, None, Result, Ok, Err, ◌≤◌, option_and_then, append-nil, refl, sym, ap, ◌∙◌, arith}
 use Rattle.std.specs.Prelude.{IfOk, IfSome, codes, option_map}
 use Rattle.json.specs.Token.{Token, begin_array, begin_object, key, string}

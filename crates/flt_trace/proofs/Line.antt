@@ -12,7 +12,7 @@ use Rattle.serde_json.specs.Written.{comma_if, compact_text, has_float, items_ha
 use Rattle.std.specs.Prelude.{option_and_then, codes}
 use Rattle.flt_trace.specs.Trace.{IsTrace, Texts, strings, trace_data}
 
--- What stands in a text is told by the text alone, whatever follows it.
+-- What is in a text depends on the text alone, whatever follows it.
 abbrev Closed : List ℕ → Type 0
 Closed text = (lexemes : List Lexeme) × ((rest : List ℕ) → lex between (text ++ rest) ≡ lexemes ++ lex between rest)
 
@@ -75,7 +75,7 @@ closed_member : (key value rest : List ℕ) → Closed value → Closed rest →
 closed_member key value rest by_value by_rest =
     joined (quoted key) (58 ∷ (value ++ rest)) (closed_quoted key) (joined (58 ∷ []) (value ++ rest) colon_closed (joined value rest by_value by_rest))
 
--- A member that has an array, and another behind it.
+-- A member that has an array, and another after it.
 abbrev list_member : List ℕ → List (List ℕ) → List ℕ → List ℕ
 list_member key texts rest = quoted key ++ 58 ∷ (compact_text (array (strings texts)) ++ 44 ∷ rest)
 

@@ -1,4 +1,4 @@
--- Numbers without a leading zero, and what stands before a space.
+-- Numbers without a leading zero, and what is before a space.
 use Rattle.std.proofs.Common.{◌≡◌, ◌≢◌, ℕ, zero, suc, ◌&&◌, ◌+◌, ◌-◌, ◌<◌, ◌≤◌, ◌^◌, List, [], ◌∷◌, ◌++◌, true, false, Bool, cond, length, Some, None, refl, sym, ap, subst, ◌∙◌, arith, take, drop, get_or}
 use Rattle.std.specs.Prelude.{not, position, nat_lt, nat_le, if◌then◌else◌}
 use Rattle.std.specs.List.{prefix_len}
@@ -23,7 +23,7 @@ spells_none word none n small is = let no_number : None ≡ Some n = none ∙ is
 pub spells_this : (word : List ℕ) (value : ℕ) → Some value ≡ number word → (n : ℕ) → n < 2 ^ 32 → word ≡ decimal n → value ≡ n
 spells_this word value spelled n small is = let same : Some value ≡ Some n = spelled ∙ is_read word n small is in cc same
 
--- The first space stands behind a number.
+-- The first space follows a number.
 digits_before : (digits rest : List ℕ) → AllDigits 10 digits → prefix_len (λ byte. not (is_space byte)) (digits ++ 32 ∷ rest) ≡ length digits
 digits_before [] rest all = refl
 digits_before (digit ∷ digits) rest all =
@@ -45,7 +45,7 @@ drop_behind (first ∷ front) byte rest =
     let one : suc (length front) + 1 ≡ suc (length front + 1) = omega arith in
     ap (λ (n : ℕ). drop n (first ∷ (front ++ byte ∷ rest))) one ∙ drop_behind front byte rest
 
--- A text stands round its first space.
+-- A text is what is before and after its first space.
 split_by : (byte : ℕ) (text : List ℕ) (space : Bool) → is_space byte ≡ space
     → (prefix_len (λ b. not (is_space b)) text < length text → text ≡ take (prefix_len (λ b. not (is_space b)) text) text ++ 32 ∷ drop (prefix_len (λ b. not (is_space b)) text + 1) text)
     → cond (not space) (1 + prefix_len (λ b. not (is_space b)) text) 0 < suc (length text)

@@ -8,7 +8,7 @@ use Rattle.flt_life_model.specs.declared.answer.StepAnswer.TheVariants.{Dem}
 use Rattle.flt_life_model.specs.declared.replies.LaneReplies.{LaneReplies}
 use Rattle.flt_report.specs.Answer.{reply_text}
 
--- These texts with that of one answer more: a reply of the machine stands at the place that it was told.
+-- These texts with that of one answer more: a reply of the machine is at the place that it was given.
 abbrev pub with_told : List (List ℕ) → Told → List (List ℕ)
 with_told texts (Dem told) = slice_set texts told.place (reply_text told.reply)
 with_told texts _ = texts
@@ -23,7 +23,7 @@ abbrev pub with_lanes : List (List ℕ) → List (List Told) → List (List ℕ)
 with_lanes texts [] = texts
 with_lanes texts (lane ∷ lanes) = with_lanes (with_lane texts lane) lanes
 
--- The text of a call that no step was told an answer of, as a save makes them.
+-- The text of a call whose answer no step has, as a save makes them.
 abbrev pub taken_text : List ℕ
 taken_text = codes "taken"
 

@@ -37,7 +37,7 @@ IsOfSave op text = ((op ≡ Snapshot) × (text ≡ codes "snapshot")) ⊎ IsOfSa
 abbrev pub IsOpText : Config → Op → List ℕ → Type 0
 IsOpText c op text = IsOfStep c op text ⊎ IsOfSave op text
 
--- What stands between the lane and the call.
+-- What is between the lane and the call.
 abbrev pub is_space : ℕ → Bool
 is_space byte = byte == 32
 

@@ -1,4 +1,4 @@
--- A trace: the texts of a life, and the JSON in which they stand.
+-- A trace: the texts of a life, and the JSON that has them.
 use Rattle.std.specs.Prelude.{◌≡◌, ℕ, List, [], ◌∷◌, ◌++◌, Some, map, codes}
 use Rattle.std.specs.String.{string_bytes}
 use denote.Ref.{Bor}
@@ -58,7 +58,7 @@ own_texts texts = record {
   answers = map string_bytes texts.answers.items;
 }
 
--- The value that texts are printed as: the keys stand in their order.
+-- The value that texts are printed as: the keys are in their order.
 unfoldable pub trace_data : Texts → Data
 trace_data texts = object (member (codes "answers") (array (strings texts.answers)) (member (codes "base") (array (strings texts.base))
     (member (codes "journal") (array (strings texts.journal)) (member (codes "script") (string texts.script) no_members))))
@@ -79,7 +79,7 @@ list_tokens name texts rest = token.key name ∷ token.begin_array ∷ array_tok
 abbrev pub last_tokens : List ℕ → List ℕ → List Token
 last_tokens name text = token.key name ∷ token.string text ∷ token.end_object ∷ []
 
--- The tokens of a trace whose keys stand in their order.
+-- The tokens of a trace whose keys are in their order.
 abbrev pub trace_tokens : Texts → List Token
 trace_tokens texts = token.begin_object ∷ list_tokens (codes "answers") texts.answers (list_tokens (codes "base") texts.base
     (list_tokens (codes "journal") texts.journal (last_tokens (codes "script") texts.script)))

@@ -1,4 +1,4 @@
-//! The calls of a trace's journal, each as the text of its step or of what a save makes, behind the number of its lane.
+//! The calls of a trace's journal, each as the text of its step or of what a save makes, after the number of its lane.
 mod printing;
 mod reading;
 

@@ -15,7 +15,7 @@ past place journal = reverse (ops_before place journal)
 abbrev pub whole : {K P R : Type 0} → (K → P → R) → Answer K → P → Answer R
 whole reply_with told payload = record { place = told.place; reply = reply_with told.reply payload }
 
--- A call is at the place that it was told, and its reply is the machine's after the operations before that place.
+-- A call is at the place that its answer gives, and its reply is the machine's after the operations before that place.
 pub record IsCall {S O R : Type 0} (admits : S → O → Type 0) (answer : S → List O → O → R) (before after : Seated S O) (op : O) (told : Answer R) : Type 0 where
   pub place : Extends before after op told.place
   pub reply : told.reply ≡ answer before.start (ops_before told.place after.seen) op
@@ -26,7 +26,7 @@ pub record IsRefusal {S O : Type 0} (before after : Seated S O) (op : O) (full :
   pub op_is : full.op ≡ op
   pub same : after ≡ before
 
--- What a call tells of its seat, before and after. `IsMade` is what the answer tells where the call is made.
+-- What a call says of its seat, before and after. `IsMade` is what the answer says where the call is made.
 pub record Calls {S O A : Type 0} (IsMade : A → Type 0) (before after : Seated S O) (op : O) (result : Result A (HistoryFull O)) : Type 0 where
   -- It is refused if and only if the seat has no call left.
   pub full : IsErr result ↔ (before.left ≡ 0)

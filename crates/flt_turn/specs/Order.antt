@@ -1,4 +1,5 @@
--- The rule of a lock: what holds of its words, its slot and all views between any two steps. Word 0 is the next ticket, and word 1 the ticket that is served.
+-- The rule of a lock: what holds of its words, its slot and all views between any two steps. Word 0 is the next ticket, and word 1 the
+-- ticket that is served.
 use Rattle.std.specs.Prelude.{◌≡◌, ◌≢◌, ℕ, ◌+◌, ◌<◌, ◌≤◌, ◌^◌, List, [], ◌∷◌, length, All, Option, Some, false, ◌==◌}
 use mathlib.Core.List.{IsPrefix}
 use mathlib.Core.Option.{some, none}
@@ -13,7 +14,8 @@ use Rattle.flt_turn.specs.Sums.{total, one_if}
 use Rattle.flt_turn.specs.Vaults.{VaultOf, journal_of, start_of, room_of}
 use Rattle.flt_turn.specs.Views.{waits, serves, sits, is_spent, left_of, present, calls_made}
 
--- What the rule counts with: the next ticket and the one that is served, the journal so far, the number of split seats, and the calls of joined ones.
+-- What the rule counts with: the next ticket and the one that is served, the journal so far, the number of split seats, and the calls
+-- of joined ones.
 pub record Tally (O : Type 0) : Type 0 where
   pub next : ℕ
   pub served : ℕ

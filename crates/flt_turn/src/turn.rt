@@ -100,9 +100,9 @@ impl<M: Machine> Turn<M> {
     /// Makes a call when its turn comes: after all calls that drew their tickets before, and before all later ones. It allocates no
     /// memory.
     ///
-    /// The reply is the machine's answer after the operations before the call's place in the journal. At `Err`, if and only if the seat has no
-    /// call left, nothing was changed, and `HistoryFull` has the operation: make the call on a seat that has calls left, or end the lock
-    /// and make one with more room.
+    /// The reply is the machine's answer after the operations before the call's place in the journal. At `Err`, if and only if the seat
+    /// has no call left, nothing was changed, and `HistoryFull` has the operation: make the call on a seat that has calls left, or end
+    /// the lock and make one with more room.
     #[inline(always)]
     pub fn call<R: Wait>(
         &self,

@@ -1,6 +1,6 @@
 //! The bytes of requests and responses (ISO 14229-1, services 0x10, 0x14, 0x19, 0x3E and 0x85, in this profile).
 //!
-//! It stands on `flt_model`, whose `specs/Request` says what the bytes of a request ask for, or with which code they are
+//! It depends on `flt_model`, whose `specs/Request` says what the bytes of a request ask for, or with which code they are
 //! refused. The layer above uses `read`, which answers exactly that, and the puts, which append bytes to a response.
 #![tactic(auto)]
 

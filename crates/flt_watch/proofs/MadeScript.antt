@@ -1,4 +1,4 @@
--- What is told of a script that was made.
+-- What is reported of a script that was made.
 use Rattle.std.proofs.Common.{◌≡◌, ℕ, true, List, [], Option, Some, None, sym, ap, subst, ◌∙◌}
 use Rattle.std.specs.Prelude.{if◌then◌else◌, reverse, slice_index_or}
 use Rattle.std.specs.Io.KnownBytes.{Appends}

@@ -52,7 +52,7 @@ module _ {F : _} {g : _} {H : _} {h : _} (lock : WatchLock F g H h) (main : Seat
   pub calls_for : calls_in part ≤ main.left
   calls_for = let sum = sum_by-cons calls_in part rest in omega (arith, sum, can.calls)
 
-  -- What the later ones need, behind it.
+  -- What the later ones need, after it.
   pub can_behind : (after : Seat) (left : List LaneRoom) (kept : LifeAnswers) → WatchGains main after part (told_in answers.own) (told_in kept.own) (map told_in answers.told.items) (map told_in kept.told.items) → IsWatchSeatOf lock after
       → main.left ≤ after.left + calls_in part → vec_len kept.own.answers ≤ vec_len answers.own.answers + 1 → HasRoomForSteps kept.own (own_steps rest)
       → vec_len kept.told ≡ vec_len answers.told + width part → vec_capacity kept.told ≡ vec_capacity answers.told → steps_of left ≡ lanes_in rest → All IsLaneRoom left → CanRunParts lock after left kept rest

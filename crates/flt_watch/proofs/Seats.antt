@@ -43,7 +43,7 @@ module _ {F : _} {g : _} {H : _} {h : _} (lock : WatchLock F g H h) (before : Se
         dem = splits_with before after work.seat (calls_of room.steps.now) (calls_of work.steps.now) calls (first_fits calls_of room later before.left can.split.enough) off seat;
       }
 
-  -- The later lanes may have their seats behind it.
+  -- The later lanes may have their seats after it.
   pub seats_on : (after : Seat) (work : WatchLane) → IsSeated lock before room after work → CanSeat lock after later
   seats_on after work is =
       let start = ap (λ (s : Seat). s.start.config) is.dem.after_is in
@@ -55,7 +55,7 @@ module _ {F : _} {g : _} {H : _} {h : _} (lock : WatchLock F g H h) (before : Se
       }
 
 module _ {F : _} {g : _} {H : _} {h : _} (lock : WatchLock F g H h) where
-  -- The later lanes may give theirs back behind it.
+  -- The later lanes may give theirs back after it.
   pub joins_later : (before : Seat) (work : WatchLane) (later : List WatchLane) (after : Seat) (replies : LaneReplies) → IsWatchLaneJoined before work after replies → CanJoin lock before (work ∷ later) → CanJoin lock after later
   joins_later before work later after replies is can = record {
     main_is = joins_on lock.turn before after work.seat is.dem can.main_is;

@@ -1,4 +1,4 @@
--- What is told where no life is made.
+-- What is reported where no life is made.
 use Rattle.std.proofs.Common.{◌≡◌, ◌⊎◌, ℕ, List, take, inl, inr, refl}
 use Rattle.std.specs.Prelude.{Result, Ok, Err, OnOk, OnErr, IsErrOf}
 use Rattle.std.specs.Io.KnownBytes.{Appends}

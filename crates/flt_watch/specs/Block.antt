@@ -19,13 +19,13 @@ use Rattle.flt_lane.specs.Runs.{Makes}
 use Rattle.flt_watch.specs.declared.lock.WatchLock.{WatchLock}
 use Rattle.flt_watch.specs.Lane.{IsWatchLaneFor, IsWatchSeatOf, IsWatchable}
 
--- The lanes of a block were run, and their answers were put behind those of the lanes before.
+-- The lanes of a block were run, and their answers were put after those of the lanes before.
 pub record RunsWatchLanes (main after : Seat) (lanes : List (List Step)) (told told_after : List (List Told)) : Type 0 where
   pub others : List (List Told)
   pub told_are : told_after ≡ told ++ others
   pub dem : HasRunBlock reply_after StepMakes main after lanes others
 
--- Lane 0 made a step, and the answer was put behind those that it has.
+-- Lane 0 made a step, and the answer was put after those that it has.
 pub record HasStepped (main after : Seat) (step : Step) (own own_after : List Told) : Type 0 where
   pub answer : Told
   pub own_are : own_after ≡ own ++ answer ∷ []
@@ -47,7 +47,7 @@ pub record CanRunParts {F : _} {g : _} {H : _} {h : _} (lock : WatchLock F g H h
   pub ready : All IsLaneRoom lanes
   pub room : HasRoomForParts answers parts
 
--- A part was carried out, and its answers were put behind those of lane 0 and of the lanes before.
+-- A part was carried out, and its answers were put after those of lane 0 and of the lanes before.
 pub record WatchGains (main after : Seat) (part : PartOf Step) (own own_after : List Told) (lanes lanes_after : List (List Told)) : Type 0 where
   pub mine : List Told
   pub others : List (List Told)

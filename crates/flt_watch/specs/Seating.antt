@@ -49,7 +49,7 @@ pub record IsWatchLaneJoined (before : Seat) (work : WatchLane) (after : Seat) (
   pub replies_are : replies ≡ work.replies
   pub dem : after ≡ joined_seat before work.seat
 
--- All lanes of a block gave theirs back, and their answers came behind those that were there.
+-- All lanes of a block gave theirs back, and their answers came after those that were there.
 pub record WatchLanesHaveJoined (off after : Seat) (works : List WatchLane) (told told_after : List (List Told)) : Type 0 where
   pub told_are : told_after ≡ told ++ map (λ (w : WatchLane). told_in w.replies) works
   pub dem : AreJoined off after (map (λ (w : WatchLane). w.seat) works)

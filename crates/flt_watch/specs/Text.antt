@@ -1,4 +1,4 @@
--- What is told of a watch.
+-- What is reported of a watch.
 use Rattle.std.specs.Prelude.{ℕ, List, [], ◌∷◌, ◌++◌, codes, Option, None, Some}
 use Rattle.std.specs.Fmt.{decimal}
 use Rattle.flt_step.specs.declared.step.Step.{Step}

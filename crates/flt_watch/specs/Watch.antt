@@ -1,4 +1,4 @@
--- What a watch leaves: its status, with its cause; what was told; and what is handed out.
+-- What a watch leaves: its status, with its cause; what was written; and what is handed out.
 use Rattle.std.specs.Prelude.{◌≡◌, ◌⊎◌, ℕ, List, [], ◌∷◌, false, Option, None, Ok, Err, IsTrue, IsFalse, Result}
 use Rattle.std.specs.Io.KnownBytes.{Appends, IsAtEnd}
 use Rattle.flt_io.specs.Fault.{Rose}
@@ -50,19 +50,19 @@ module _ {F : _} {g : _} where
     pub kinds_are : kinds_in outcome.subs ≡ kinds
     pub values_are : values_in outcome.subs ≡ values
 
-  -- Memory ran out: what the sink held stands, and some bytes behind it, if any; nothing is said of the state and of the subscribers.
+  -- Memory ran out: what the sink held is still there, with some bytes after it, if any; nothing is said of the state and of the subscribers.
   pub record WantsMemory (writing : Outside) (outcome : WatchOutcome F g) : Type 0 where
     pub status_is : outcome.status ≡ 7
     pub journal : outcome.journal.items ≡ []
     pub answers : outcome.answers.items ≡ []
     pub kept : (bytes : List ℕ) × Appends writing.held writing.held_after bytes
 
-  -- No life was made, and this text was told in place of it.
+  -- No life was made, and this text was written in place of it.
   pub record IsTurnedAway (writing : Outside) (answer : Due) (kinds values : List ℕ) (outcome : WatchOutcome F g) : Type 0 where
     pub told : IsTold writing answer outcome.status
     pub unmade : IsUnmade kinds values outcome
 
-  -- The one life of this script was made and told, on a lock over the watched machine.
+  -- The one life of this script was made and reported, on a lock over the watched machine.
   pub record IsMadeOf (writing : Outside) (script : ScriptContent) (kinds : List ℕ) (outcome : WatchOutcome F g) : Type 0 where
     pub parts : List (PartOf Step)
     pub one : script.lives ≡ parts ∷ []

@@ -88,7 +88,7 @@ fn seat_lanes<'a>(
     pass_all(lock, main, rooms, works);
 }
 
-/// Joins the seats of lanes, and puts their answers behind those that are there.
+/// Joins the seats of lanes, and puts their answers after those that are there.
 fn join_lanes(
     lock: &WatchLock,
     main: &mut WatchSeat,
@@ -118,7 +118,7 @@ fn run_works<R: Threads + Wait + Sync, G: Gate + Sync>(
     run_beside(rt, lock, gate, works.as_mut_slice());
 }
 
-/// Runs the lanes of a block, and puts their answers behind those that are there. No memory is taken: there is room for the seats
+/// Runs the lanes of a block, and puts their answers after those that are there. No memory is taken: there is room for the seats
 /// in `works`, and in `answers` for the answers.
 pub(crate) fn run_block<'a, R: Threads + Wait + Sync, G: Gate + Sync>(
     rt: &R,

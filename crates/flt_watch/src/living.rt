@@ -46,7 +46,7 @@ fn run_one<R: Wait, G: Gate>(
     gate.after(rt, 0, index);
 }
 
-/// Carries out a part of a life, and puts its answers behind those that are there. The lanes of a block are the next ones.
+/// Carries out a part of a life, and puts its answers after those that are there. The lanes of a block are the next ones.
 fn run_part<'a, R: Threads + Wait + Sync, G: Gate + Sync>(
     rt: &R,
     alloc: Global,

@@ -36,7 +36,7 @@ pub struct WatchEnd {
 }
 
 /// The watched machine for many lanes: its state, with the values of the subscribers, is under the lock, and the functions that it calls
-/// stand beside it.
+/// are kept beside it.
 #[derive(Drop)]
 pub struct WatchLock {
     pub turn: Turn<Watched>,
@@ -68,7 +68,7 @@ impl WatchLock {
         Ok((WatchLock { turn, lent, config }, seat))
     }
 
-    /// Makes a call when its turn comes, and tells each subscriber the changes that it makes. The answer has the kind of the reply, and
+    /// Makes a call when its turn comes, and calls each subscriber with the changes that it makes. The answer has the kind of the reply, and
     /// the bytes of a response are written in place of what `response` holds.
     #[inline(always)]
     pub fn call_into<R: Wait>(

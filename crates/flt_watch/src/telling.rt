@@ -1,4 +1,4 @@
-//! What is told of a watch.
+//! What is reported of a watch.
 ghost use Rattle.std.specs.Prelude.{◌≡◌, ◌≢◌, ◌<◌, ◌+◌, ◌^◌, IfOk};
 ghost use Rattle.std.specs.String.{string_bytes};
 ghost use Rattle.flt_io.specs.Written.{Writes};
@@ -63,7 +63,7 @@ fn write_values<K: Sink>(
     write_value(alloc, subs, 2, sink)
 }
 
-/// Writes the lines of a watched life, and those of the kinds behind them.
+/// Writes the lines of a watched life, and those of the kinds after them.
 pub(crate) fn write_watched<K: Sink>(
     alloc: Global,
     parts: &[Part],

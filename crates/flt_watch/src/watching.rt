@@ -1,4 +1,4 @@
-//! A watch: a script of one life is made on a lock over the watched machine, and told with the values of the subscribers.
+//! A watch: a script of one life is made on a lock over the watched machine, and reported with the values of the subscribers.
 ghost use Rattle.std.specs.Prelude.{◌≡◌, ◌⊎◌, IsTrue};
 ghost use Rattle.flt_config.specs.declared.persist.Persist.{Persist};
 ghost use Rattle.flt_did.specs.Serves.{Serves};
@@ -31,7 +31,7 @@ use std::thread::Threads;
 /// What a watch leaves.
 #[derive(Drop)]
 pub struct WatchOutcome {
-    /// The number of a `Status`: 0 where the life was made and told, 2 where the script was refused or is another one, 3 where the source
+    /// The number of a `Status`: 0 where the life was made and reported, 2 where the script was refused or is another one, 3 where the source
     /// failed, 4 where the sink did, and 7 where memory ran out.
     pub status: u8,
     /// The state from which the life began; without events where no life was made.
@@ -84,7 +84,7 @@ fn unmade(alloc: Global, status: Status, subs: SubTable<KINDS>) -> WatchOutcome
     }
 }
 
-/// A life was made, and told with this status.
+/// A life was made, and reported with this status.
 fn made(status: Status, watched: WatchedLife) -> WatchOutcome
     requires { (base : Persist) × (watched.life.boot ≡ Started 0 base) }
     ensures status { result.status ≡ status_number status }
@@ -112,7 +112,7 @@ fn made(status: Status, watched: WatchedLife) -> WatchOutcome
     }
 }
 
-/// Makes the life of a script, and tells it.
+/// Makes the life of a script, and reports it.
 fn watch_script<R: Threads + Wait + Sync, K: Sink, G: Gate + Sync>(
     rt: &R,
     alloc: Global,
@@ -140,7 +140,7 @@ fn watch_script<R: Threads + Wait + Sync, K: Sink, G: Gate + Sync>(
 }
 
 /// Reads a script from `source`, makes its one life on a lock over a watched machine, the lanes of a block at the same time on threads of
-/// `rt`, and tells `sink` its lines and then the value of each kind that has a subscriber. The life begins as one of a controller that
+/// `rt`, and writes to `sink` its lines and then the value of each kind that has a subscriber. The life begins as one of a controller that
 /// never saved a state, and keeps none. Each step is made between the two calls of `gate`.
 #[inline(never)]
 pub fn watch<R: Threads + Wait + Sync, S: Source, K: Sink, G: Gate + Sync>(

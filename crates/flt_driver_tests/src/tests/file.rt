@@ -28,7 +28,7 @@ const PAGES: u16 = 14;
 /// The units of an EEPROM, 640 bytes in all.
 const UNITS: u16 = 20;
 
-/// A driver of the blocks 9 and 8 over a flash of so many pages a sector.
+/// A driver of the blocks 9 and 8 over a flash of this many pages a sector.
 fn fee_over<F: Bench + Drop>(alloc: Global, flash: F) -> Result<Fee<F>, Fail>
     ensures first { IfOk result (λ fee. Contains (fee_state F.state fee).numbers 8) }
     ensures second { IfOk result (λ fee. Contains (fee_state F.state fee).numbers 9) }
@@ -39,7 +39,7 @@ fn fee_over<F: Bench + Drop>(alloc: Global, flash: F) -> Result<Fee<F>, Fail>
     two_blocks(alloc, flash, PAGES)
 }
 
-/// A driver of the blocks 8 and 9 over an EEPROM of so many units.
+/// A driver of the blocks 8 and 9 over an EEPROM of this many units.
 fn ea_over<E: Eeprom + Drop>(alloc: Global, device: E) -> Result<Ea<E>, Fail>
     ensures first { IfOk result (λ ea. Contains (ea_state E.state ea).numbers 8) }
     ensures second { IfOk result (λ ea. Contains (ea_state E.state ea).numbers 9) }

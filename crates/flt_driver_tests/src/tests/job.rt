@@ -53,7 +53,7 @@ fn held_with(bytes: &[u8]) -> Held {
     Held::Bytes(*first)
 }
 
-/// What a block holds with so many bytes from the start of these.
+/// What a block holds with this many bytes from the start of these.
 pub fn held_of(block: u16, length: usize, bytes: &[u8; 128]) -> Held {
     match (block, length) {
         (8, 1) => held_with(&bytes[..1]),
@@ -178,7 +178,7 @@ fn read_again<B: Blocks>(driver: &mut B) -> Result<(Held, Held), BlockFault>
 }
 
 /// Makes the job over a driver with this arm, and reads the blocks with the power on again, a second time where the arm made that fail:
-/// each holds what it held or what was asked. It tells whether all of the job was made, and what the blocks hold.
+/// each holds what it held or what was asked. It answers whether all of the job was made, and what the blocks hold.
 pub fn run_armed<B: Blocks>(
     rt: &impl Abort,
     driver: &mut B,

@@ -129,7 +129,7 @@ static NOTES: [(Note, Note, Note, Note, bool); 5] = [
     (None, None, None, Some(3), false),
 ];
 
-/// A frame of so many bytes.
+/// A frame of this many bytes.
 fn frame(length: usize) -> Frame {
     let mut frame = ArrayVec::new();
     for _ in 0..length {

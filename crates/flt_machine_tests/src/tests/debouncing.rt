@@ -25,7 +25,7 @@ fn reports(
     assert!(rt; fdc(rules, state) == counter, "{made:?} to {counter}");
 }
 
-/// So many ticks give this result, and leave this counter.
+/// This many ticks give this result, and leave this counter.
 fn ticks(
     rt: &impl Abort,
     rules: &Debounce,

@@ -1,6 +1,6 @@
 //! The table of data identifiers, and the stored functions at the ends of the signals.
 use arrayvec::ArrayVec;
-use flt_config::{DIDS, DidUse};
+use flt_config::{DIDS, DidUse, SignalIndex};
 use flt_did::{
     DidTable, Signals, TableFault, did_0101, did_0102, did_0103, did_0104, did_0105, did_0106,
     did_0107,
@@ -39,8 +39,8 @@ fn a_frame_has_its_values_in_order(rt: HostRuntime) {
         width: 2,
     });
     let mut signals = Signals::zero();
-    signals.set(0, 258);
-    signals.set(2, 7);
+    signals.set(SignalIndex::new(0), 258);
+    signals.set(SignalIndex::new(2), 7);
     let frame = table.frame(&uses, &signals);
     assert!(&rt; frame.as_slice() == [0x07, 0x01, 0x02].as_slice());
 }
@@ -49,7 +49,7 @@ fn a_frame_has_its_values_in_order(rt: HostRuntime) {
 fn greatest() -> Signals {
     let mut signals = Signals::zero();
     for index in 0..8u8 {
-        signals.set(index, 65535);
+        signals.set(SignalIndex::new(index), 65535);
     }
     signals
 }

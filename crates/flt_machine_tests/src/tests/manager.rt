@@ -1,4 +1,4 @@
-//! The entries, frames and noted events of a manager, as its calls tell them. Its steps are worked in the scripts of the examples.
+//! The entries, frames and noted events of a manager, as its calls give them. Its steps are worked in the scripts of the examples.
 ghost use Rattle.std.specs.Prelude.{◌<◌, ◌↔◌, IsTrue, length};
 ghost use Rattle.flt_dem.specs.Dem.{manager_config};
 

@@ -209,7 +209,7 @@ static FRONT: [u8; 11] = [
     0x7F, 0x19, 0x31, 0x12, 0x34, 0x56, 0x2F, 0x01, 0x12, 0x34, 0x5A,
 ];
 
-/// A response with them, put one behind the other.
+/// A response with them, put one after the other.
 fn front() -> ArrayVec<u8, RESPONSE>
     ensures { length result.items ≡ 11 }
 {

@@ -29,7 +29,7 @@ fn table() -> DidTable<DID_ROWS> {
     table
 }
 
-/// Puts the words of a step, with a full stop behind them.
+/// Puts the words of a step, with a full stop after them.
 fn put_step(text: &mut String, alloc: Global, step: &Step) -> Result<(), AllocError> {
     let mut words = Vec::new(alloc);
     put_words(step, &mut words)?;
@@ -57,7 +57,7 @@ fn put_part(text: &mut String, alloc: Global, part: &Part) -> Result<(), AllocEr
     }
 }
 
-/// What is told of lives: their parts, and a bar before each life but the first.
+/// What is reported of lives: their parts, and a bar before each life but the first.
 fn told_of(alloc: Global, lives: &[Vec<Part>]) -> Result<String, AllocError> {
     let mut text = String::new(alloc);
     let mut bar = "";
@@ -71,7 +71,7 @@ fn told_of(alloc: Global, lives: &[Vec<Part>]) -> Result<String, AllocError> {
     Ok(text)
 }
 
-/// What is told of a script: its lives, or its fault.
+/// What is reported of a script: its lives, or its fault.
 fn outcome(alloc: Global, bytes: &[u8]) -> Result<String, AllocError> {
     match parse(alloc, bytes, &table()) {
         Ok(script) => told_of(alloc, &script.lives),
@@ -79,7 +79,7 @@ fn outcome(alloc: Global, bytes: &[u8]) -> Result<String, AllocError> {
     }
 }
 
-/// Scripts of steps, and what is told of each.
+/// Scripts of steps, and what is reported of each.
 static STEPS: [(&str, &str); 113] = [
     ("", ""),
     ("event 0 dtc 123456\r\ncycle 0", "cycle 0."),
@@ -232,7 +232,7 @@ static STEPS: [(&str, &str); 113] = [
     ("T A 3E 00", "script line 1 word"),
 ];
 
-/// Scripts of settings, events and data identifiers, and what is told of each.
+/// Scripts of settings, events and data identifiers, and what is reported of each.
 static SETTINGS: [(&str, &str); 83] = [
     ("did 0 0101", "script line 1 order"),
     ("event 0 dtc 000001\ndid 1 0101", "script line 2 order"),
@@ -370,7 +370,7 @@ static SETTINGS: [(&str, &str); 83] = [
     ),
 ];
 
-/// Each script is told as its case says.
+/// Each script is reported as its case says.
 fn all_are_told(rt: &impl Abort, alloc: Global, cases: &[(&str, &str)]) -> Result<(), Fail> {
     for case in cases {
         let told = outcome(alloc, case.0.as_bytes())?;

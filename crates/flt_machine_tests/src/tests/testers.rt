@@ -1,5 +1,5 @@
 //! The answers to every service and sub-function at every length against a table written from the standard's request forms. Worked
-//! rows with testers stand in the scripts of the examples.
+//! rows with testers are in the scripts of the examples.
 ghost use Rattle.std.specs.Prelude.{◌<◌, ◌↔◌, IsTrue, length};
 ghost use Rattle.flt_dcm.specs.Whole.{config_of};
 

@@ -156,7 +156,7 @@ fn run_lane<R: Wait>(rt: &R, turn: &Turn<Adder>, mut seat: Seat<Adder>) -> Seat<
     seat
 }
 
-/// Runs this many lanes of so many calls, each in a thread of its own.
+/// Runs this many lanes of this many calls, each in a thread of its own.
 fn run_lanes<R: Threads + Wait + Sync>(
     rt: &R,
     turn: &Turn<Adder>,

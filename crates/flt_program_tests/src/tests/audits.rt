@@ -1,4 +1,4 @@
-//! A worked trace with one change at a time, and what the audit tells of each.
+//! A worked trace with one change at a time, and what the audit reports of each.
 use flt_audit::audit;
 use flt_did::DidTable;
 use flt_io::{MemSink, MemSource};
@@ -52,7 +52,7 @@ enum Part {
 /// A text in the place of the one that is due: the part and the place in it.
 type Change<'a> = (Part, usize, &'a str);
 
-/// Each change, and what the audit tells then.
+/// Each change, and what the audit reports then.
 static CHANGES: [(Part, usize, &str, &str); 42] = [
     (Part::None, 0, "", "yes 7"),
     (Part::Keys, 0, "text", "shape"),
@@ -70,7 +70,7 @@ static CHANGES: [(Part, usize, &str, &str); 42] = [
     (Part::Script, 0, "memory 1\\nevent 0 dtc 000002\\n", "no 2"),
     (Part::Script, 0, "memory 2\\nevent 0 dtc 000001\\n", "shape"),
     (Part::Script, 0, "nothing\\n", "shape"),
-    // The summary: an overflow, an entry that stands nowhere, one byte less, a small letter, no digit.
+    // The summary: an overflow, an entry that is nowhere, one byte less, a small letter, no digit.
     (
         Part::Base,
         0,
@@ -148,7 +148,7 @@ static CHANGES: [(Part, usize, &str, &str); 42] = [
     (Part::Answers, 6, "Taken", "no 6"),
 ];
 
-/// Puts the text at a place of a part, in quotation marks and behind a comma where it is not the first.
+/// Puts the text at a place of a part, in quotation marks and after a comma where it is not the first.
 fn put_text(
     out: &mut String,
     part: Part,
@@ -202,7 +202,7 @@ fn trace_with(alloc: Global, change: Change<'_>) -> Result<String, AllocError> {
     Ok(out)
 }
 
-/// The status that comes with what is told.
+/// The status that comes with what is reported.
 fn status_of(told: &str) -> u8 {
     if told.starts_with("yes") {
         0
@@ -215,7 +215,7 @@ fn status_of(told: &str) -> u8 {
     }
 }
 
-/// Of these bytes the audit tells this.
+/// Of these bytes the audit reports this.
 fn is_told(rt: &impl Abort, alloc: Global, bytes: &[u8], told: &str) -> Result<(), Fail> {
     let mut source = MemSource::new(Vec::from_slice(alloc, bytes)?, Vec::new(alloc));
     let mut sink = MemSink::new(alloc, 100, Vec::new(alloc))?;

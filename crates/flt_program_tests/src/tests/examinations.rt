@@ -126,13 +126,13 @@ static SPOILED: [(&[(usize, &str)], u8, &str, &str); 9] = [
         "refused config 0 events 2 entries 1 wanted config 0 events 1 entries 1\n",
         "page 17 block 16 length 10 complete\npage 20 block 17 length 10 complete\n",
     ),
-    // The start gate of the sector, its active gate, without which no sector is valid, and a page behind the records.
+    // The start gate of the sector, its active gate, without which no sector is valid, and a page after the records.
     (&[(0, ZEROS)], 6, "refused sector 0 page 0\n", ""),
     (&[(1, BLANK)], 0, "generation 0\nno sector\n", ""),
     (&[(40, ZEROS)], 6, "refused sector 0 page 40\n", ""),
 ];
 
-/// The page at a place, by those that stand in place of others.
+/// The page at a place, by those that take the place of others.
 fn page_at(place: usize, pages: &[(usize, &'static str)]) -> &'static str {
     for (other, page) in pages {
         if *other == place {

@@ -14,7 +14,7 @@ use std::thread::{Threads, yield_now};
 const TURNS: u32 = 1_000_000;
 
 /// How often a gate was asked before and after the steps of a lane, and how often out of turn: a lane's steps are counted from 0, and
-/// each is asked for before it is made and then behind it.
+/// each is asked for before it is made and then after it.
 #[derive(Drop)]
 struct Asked {
     before: AtomicU64,
@@ -47,7 +47,7 @@ impl Asked {
         }
     }
 
-    /// It was asked around so many steps, each in its turn.
+    /// It was asked around this many steps, each in its turn.
     fn is_asked(&self, times: u64) -> bool {
         self.before.load(Ordering::SeqCst) == times
             && self.after.load(Ordering::SeqCst) == times
@@ -149,7 +149,7 @@ fn lanes_overlap(rt: HostRuntime) -> Result<(), Fail> {
 /// The monitor's lane, which reports while the lane of the store is held in a program.
 const MONITOR: u32 = 1;
 
-/// What a gate and a flash tell one another: that a program waits, that the monitor's report was answered, and how often one of them
+/// What a gate and a flash let each other know: that a program waits, that the monitor's report was answered, and how often one of them
 /// waited in vain.
 #[derive(Drop)]
 struct Report {
@@ -169,7 +169,7 @@ fn wait_for(flag: &AtomicU64, vain: &AtomicU64) {
     vain.fetch_add(1, Ordering::SeqCst);
 }
 
-/// Holds the monitor's lane before its step until a program waits, and tells that its step was answered.
+/// Holds the monitor's lane before its step until a program waits, and says that its step was answered.
 impl Gate for Report {
     fn before<R: Wait>(&self, _rt: &R, lane: u32, _step: u32) {
         if lane == MONITOR {

@@ -1,4 +1,4 @@
-//! Tables of images, scripts and streams, each with what a run tells of it.
+//! Tables of images, scripts and streams, each with what a run reports of it.
 use super::reports::{ends_so, ends_so_on_blank, run_over};
 use flt_code::seal;
 use flt_flash::{Flash, FlashMem};
@@ -70,7 +70,7 @@ const OLD: &[(usize, Change)] = &[
     (21, Change::Plain(OLD_COMMIT)),
 ];
 
-/// Changes of an image, each with its page, of which sector 0 has the first 1,024, with what the next run tells and its status.
+/// Changes of an image, each with its page, of which sector 0 has the first 1,024, with what the next run reports and its status.
 static IMAGES: [(&[(usize, Change)], &str, u8); 12] = [
     (&[], "life 1 generation 1\n", 0),
     (&[(0, Change::Zeros)], "life 1 refused sector 0 page 0\n", 6),
@@ -110,7 +110,7 @@ static IMAGES: [(&[(usize, Change)], &str, u8); 12] = [
     ),
 ];
 
-/// Scripts that are none, each with what is told of it.
+/// Scripts that are none, each with what is reported of it.
 static REFUSED: [(&[u8], &str); 12] = [
     (b"# \x80\n", "script line 1 byte\n"),
     (b"nothing\n", "script line 1 word\n"),
@@ -136,7 +136,7 @@ const TOO_MANY: usize = 1_048_577;
 /// A script with a line that ends in a carriage return and a line feed, and one that ends in neither.
 const ACCEPTED: &[u8] = b"event 0 dtc 123456\r\ncycle 0";
 
-/// A script without a trouble code, and what is told of it.
+/// A script without a trouble code, and what is reported of it.
 const UNFORMED: &[u8] = b"event 0 count 1 1 1 1\n";
 
 const UNFORMED_TOLD: &str = "script line 1 form\n";
@@ -237,7 +237,7 @@ fn saved_image<R: Threads + Wait + Sync + Abort>(
     pages_of(alloc, &saved)
 }
 
-/// Makes changes of pages that the image has, and tells whether it has them all.
+/// Makes changes of pages that the image has, and answers whether it has them all.
 fn change_all(image: &mut Vec<[u8; 32]>, changes: &[(usize, Change)]) -> bool {
     for (page, change) in changes {
         if *page >= image.len() {
@@ -276,8 +276,8 @@ fn changed_images_are_told(rt: HostRuntime) -> Result<(), Fail> {
     Ok(())
 }
 
-/// Scripts behind an image of version 1, which is restored, each with its report. A save that is cut before its first program leaves
-/// generation 1; one that is cut behind the first copy of its commit leaves generation 2, beside a second copy that still names
+/// Scripts after an image of version 1, which is restored, each with its report. A save that is cut before its first program leaves
+/// generation 1; one that is cut after the first copy of its commit leaves generation 2, beside a second copy that still names
 /// generation 1 in version 1.
 static RESTORED: [(&str, &str); 2] = [
     (
@@ -301,7 +301,7 @@ fn an_image_of_version_1_is_restored(rt: HostRuntime) -> Result<(), Fail> {
     Ok(())
 }
 
-/// So many event lines, with DTCs from 020000 on.
+/// This many event lines, with DTCs from 020000 on.
 fn event_lines(alloc: Global, count: u32) -> Result<String, AllocError> {
     let mut lines = String::new(alloc);
     for number in 0..count {
@@ -366,7 +366,7 @@ fn line_ends_are_accepted(rt: HostRuntime) -> Result<(), Fail> {
     Ok(())
 }
 
-/// The status of a run whose source fails at this call, and whether what it writes is due: `read fault`, or what is told of the script.
+/// The status of a run whose source fails at this call, and whether what it writes is due: `read fault`, or what is reported of the script.
 fn status_of_a_pull<R: Threads + Wait + Sync>(
     rt: &R,
     alloc: Global,
@@ -381,7 +381,7 @@ fn status_of_a_pull<R: Threads + Wait + Sync>(
     Ok((status, sink.bytes() == told.as_bytes()))
 }
 
-/// The status of a run whose sink fails at this call, and whether what it writes is due: all that is told of the script, or a front of it.
+/// The status of a run whose sink fails at this call, and whether what it writes is due: all that is reported of the script, or a front of it.
 fn status_of_a_push<R: Threads + Wait + Sync>(
     rt: &R,
     alloc: Global,

@@ -8,14 +8,14 @@ use std::test::Fail;
 /// What a stuttering stream does at a call.
 #[derive(Clone, Copy)]
 enum Turn {
-    /// It moves at most so many bytes.
+    /// It moves at most this many bytes.
     Moves(usize),
     Fails(ErrorKind),
 }
 
 const INTERRUPTED: Turn = Turn::Fails(ErrorKind::Interrupted);
 
-/// A stream whose calls go as its turns say, and move any number of bytes behind the last.
+/// A stream whose calls go as its turns say, and move any number of bytes after the last.
 #[derive(Drop)]
 struct Stuttering {
     bytes: Vec<u8>,
@@ -69,7 +69,7 @@ impl Write for Stuttering {
     }
 }
 
-/// Pulls three bytes at most at each call, which are so many, or none where it fails.
+/// Pulls three bytes at most at each call, of which there are this many, or none where it fails.
 fn pull_all<S: Source>(
     rt: &impl Abort,
     source: &mut S,

@@ -2,12 +2,12 @@
 ghost use Rattle.flt_program_tests.specs.KindExamples.{KindsAtTheirEnds};
 ghost use Rattle.flt_program_tests.specs.VerdictExamples.{HeldIsTold, LinesOfADump, RefusalsOfAnInspection, ReportsOfALoad, StepsOfAWatch};
 
-/// The values of the kinds behind a change more, at their ends.
+/// The values of the kinds after one more change, at their ends.
 pub fn kinds_at_their_ends()
     ensures { KindsAtTheirEnds }
 {}
 
-/// What is told of bytes that are no dump, of an input that was not read, and of words that are no command.
+/// What is reported about bytes that are no dump, of an input that was not read, and of words that are no command.
 pub fn refusals_of_an_inspection()
     ensures { RefusalsOfAnInspection }
 {}
@@ -17,7 +17,7 @@ pub fn lines_of_a_dump()
     ensures { LinesOfADump }
 {}
 
-/// The generation that is held is told before the lines of the image.
+/// The generation that is held is reported before the lines of the image.
 pub fn held_is_told()
     ensures { HeldIsTold }
 {}

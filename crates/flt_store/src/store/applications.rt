@@ -5,7 +5,7 @@ ghost use Rattle.flt_nvm.specs.Driver.{driver_of as driver_beneath, table_of};
 ghost use Rattle.flt_flash.specs.Calls.{ReadsAlone, SameValues};
 ghost use Rattle.flt_nvm.specs.Leaves.{FlashTakesThree, Gives, GotOf};
 ghost use Rattle.flt_store_model.specs.Form.{application_length};
-ghost use Rattle.flt_store_model.specs.Layout.{applications, application_number};
+ghost use Rattle.flt_store_model.specs.Layout.{application_number};
 ghost use Rattle.flt_image.specs.Table.{block_table};
 ghost use Rattle.flt_store.specs.Applications.{CanPut};
 ghost use Rattle.flt_store.specs.Cause.{StoreWrites};
@@ -13,11 +13,12 @@ ghost use Rattle.flt_store.specs.Cause.{StoreWrites};
 use super::Store;
 use crate::fault::PutFault;
 use arrayvec::ArrayVec;
+use flt_config::ApplicationBlock;
 use flt_flash::{BlockFault, Blocks, FlashFailed};
 use flt_nvm::{Got, Nvm};
 use flt_store_model::{APPLICATION_LENGTH, FIRST_APPLICATION};
 
-/// The bytes, behind those that stand.
+/// Puts the bytes after those that are there.
 fn push_all(bytes: &[u8], out: &mut ArrayVec<u8, APPLICATION_LENGTH>)
     requires { length out.old.items + length bytes.now ≤ application_length }
     ensures { out.new.items ≡ out.old.items ++ bytes.now }
@@ -27,32 +28,31 @@ fn push_all(bytes: &[u8], out: &mut ArrayVec<u8, APPLICATION_LENGTH>)
 
 fn write_application<B: Blocks + Drop>(
     nvm: &mut Nvm<B>,
-    block: u8,
+    block: ApplicationBlock,
     bytes: &[u8],
 ) -> Result<(), BlockFault>
     requires table { table_of nvm.old ≡ block_table }
-    requires can { CanPut block bytes.now }
+    requires can { CanPut bytes.now }
     ensures gives { Gives (driver_beneath nvm.old) (driver_beneath nvm.new) (application_number block) (holding bytes.now) (length bytes.now) result }
     ensures not_stale { OnOk result (IsFalse (driver_beneath nvm.new).is_stale) }
     ensures writes { StoreWrites (driver_beneath nvm.old) (driver_beneath nvm.new) result }
     ensures table { table_of nvm.new ≡ table_of nvm.old }
 {
-    nvm.write(FIRST_APPLICATION + block as u16, 0, bytes)
+    nvm.write(FIRST_APPLICATION + block.get() as u16, 0, bytes)
 }
 
 fn read_application<B: Blocks + Drop>(
     nvm: &mut Nvm<B>,
-    block: u8,
+    block: ApplicationBlock,
     out: &mut [u8; 128],
 ) -> Result<Got, BlockFault>
     requires table { table_of nvm.old ≡ block_table }
-    requires block { block < applications }
     ensures got { IfOk result (λ got. GotOf 1 ((driver_beneath nvm.old).value (application_number block)) got out.old out.new) }
     ensures reads { ReadsAlone (driver_beneath nvm.old) (driver_beneath nvm.new) result }
     ensures three { FlashTakesThree (driver_beneath nvm.old) (driver_beneath nvm.new) result }
     ensures table { table_of nvm.new ≡ table_of nvm.old }
 {
-    nvm.read(FIRST_APPLICATION + block as u16, 0, out)
+    nvm.read(FIRST_APPLICATION + block.get() as u16, 0, out)
 }
 
 impl<B: Blocks + Drop> Store<B> {
@@ -69,14 +69,14 @@ impl<B: Blocks + Drop> Store<B> {
     /// holds it is `Ok`. At `Err` the store still runs: after `Flash` put the bytes again, after `SequenceSpent` another image is needed.
     pub fn put_block(&mut self, block: u8, bytes: &[u8]) -> Result<(), PutFault>
         requires alive { (c : Config) × (block < c.blocks) × IsAlive c self.old }
-        requires can { CanPut block bytes.now }
+        requires can { CanPut bytes.now }
         ensures puts { PutsBlock block bytes.now (driver_of self.old) (driver_of self.new) result }
         ensures running { (c : Config) → block < c.blocks → WhileRunning c self.old (λ held spare. PutsWhileRunning c held spare self.old self.new result) }
         ensures settled { is_settled self.new ≡ is_settled self.old }
         ensures not_stale { OnOk result (IsFalse (driver_of self.new).is_stale) }
         ensures calls { Follows (driver_of self.old) (driver_of self.new) }
     {
-        write_application(&mut self.nvm, block, bytes)?;
+        write_application(&mut self.nvm, ApplicationBlock::new(block), bytes)?;
         Ok(())
     }
 
@@ -89,7 +89,6 @@ impl<B: Blocks + Drop> Store<B> {
         out: &mut ArrayVec<u8, APPLICATION_LENGTH>,
     ) -> Result<bool, FlashFailed>
         requires alive { (c : Config) × (block < c.blocks) × IsAlive c self.old }
-        requires block { block < applications }
         ensures running { (c : Config) → WhileRunning c self.old (λ held spare. GetsWhileRunning c held spare block out.new.items self.old self.new result) }
         ensures empty { OnErr result (out.new.items ≡ []) }
         ensures values { SameValues (driver_of self.old) (driver_of self.new) }
@@ -99,7 +98,7 @@ impl<B: Blocks + Drop> Store<B> {
     {
         let mut bytes = [0; 128];
         out.clear();
-        match read_application(&mut self.nvm, block, &mut bytes) {
+        match read_application(&mut self.nvm, ApplicationBlock::new(block), &mut bytes) {
             Ok(Got::Missing) => Ok(false),
             Ok(Got::Bytes { length, .. }) => {
                 push_all(&bytes[..length], out);

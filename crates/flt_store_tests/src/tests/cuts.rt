@@ -1,5 +1,5 @@
-//! A fixed job on a store, each of whose programs and erases, or writes to an EEPROM, is cut or fails by each pattern: what stands then is what stood
-//! before the call that failed, or what it asked for.
+//! A fixed job on a store, each of whose programs and erases, or writes to an EEPROM, is cut or fails by each pattern: what is
+//! there then is what was there before the call that failed, or what it asked for.
 ghost use Rattle.std.specs.Prelude.{IsTrue};
 ghost use Rattle.flt_store.specs.Store.{IsAlive};
 ghost use Rattle.flt_store_tests.specs.Room.{IsRoomy, SameRoom};
@@ -17,7 +17,7 @@ pub(super) enum Call {
     Put(u8),
 }
 
-/// The job behind its start-up: a save, 14 puts, of which the last switches the sectors, a save, and a start-up.
+/// The job after its start-up: a save, 14 puts, of which the last switches the sectors, a save, and a start-up.
 pub(super) static JOB: [Call; 17] = [
     Call::Save(FAILED),
     Call::Put(1),
@@ -38,8 +38,8 @@ pub(super) static JOB: [Call; 17] = [
     Call::Start,
 ];
 
-/// The job on an image of version 1 that holds generation 1, behind its start-up: a save, 14 puts, of which the tenth switches the sectors, a
-/// save, and a start-up.
+/// The job on an image of version 1 that holds generation 1, after its start-up: a save, 14 puts, of which the tenth switches the sectors,
+/// a save, and a start-up.
 pub(super) static OLD_JOB: [Call; 17] = [
     Call::Save(PASSED),
     Call::Put(1),
@@ -89,7 +89,7 @@ impl Told {
         }
     }
 
-    /// What an image of version 1 says, behind its first save.
+    /// What an image of version 1 says, after its first save.
     pub(super) fn old() -> Told {
         Told {
             number: 1,
@@ -121,7 +121,7 @@ impl Told {
     }
 }
 
-/// Starts up; it tells whether that answered `Ok`, with what it has to answer.
+/// Starts up; it returns whether that answered `Ok`, with what it has to answer.
 fn starts<B: Blocks + Drop>(
     rt: &impl Abort,
     store: &mut Store<B>,
@@ -141,7 +141,7 @@ fn starts<B: Blocks + Drop>(
     }
 }
 
-/// Makes a call of the job; it tells whether that answered `Ok`, with what it has to answer.
+/// Makes a call of the job; it returns whether that answered `Ok`, with what it has to answer.
 fn make<B: Blocks + Drop>(
     rt: &impl Abort,
     store: &mut Store<B>,
@@ -167,8 +167,8 @@ fn make<B: Blocks + Drop>(
     }
 }
 
-/// Starts up on an image that says this, and makes the calls of a job until one fails: what stood before the last call, and what it asked
-/// for.
+/// Starts up on an image that says this, and makes the calls of a job until one fails: what was there before the last call, and what it
+/// asked for.
 pub(super) fn run_job<B: Blocks + Drop>(
     rt: &impl Abort,
     store: &mut Store<B>,
@@ -193,7 +193,7 @@ pub(super) fn run_job<B: Blocks + Drop>(
     (before, before, true)
 }
 
-/// What the store tells when it starts up.
+/// What the store reports when it starts up.
 pub(super) fn read_told<B: Blocks + Drop>(
     rt: &impl Abort,
     store: &mut Store<B>,
@@ -216,8 +216,8 @@ pub(super) fn read_told<B: Blocks + Drop>(
     Ok(told)
 }
 
-/// Runs a job over a device that says this, with this arm, and starts up with the power on again. It tells whether each call of the job
-/// answered `Ok`, and whether the arm still stands.
+/// Runs a job over a device that says this, with this arm, and starts up with the power on again. It returns whether each call of the job
+/// answered `Ok`, and whether the arm is still there.
 fn run_case<B: Blocks + Drop>(
     rt: &impl Abort,
     store: Store<B>,
@@ -247,7 +247,7 @@ fn arm_at(is_cut: bool, after: u32, pattern: Pattern) -> Arm {
     }
 }
 
-/// Where an operation of the job is cut, the job ends there; by a fault it goes on. Behind its last operation the arm stands.
+/// Where an operation of the job is cut, the job ends there; by a fault it goes on. After its last operation the arm is still there.
 fn assert_ended(rt: &impl Abort, ended: (bool, bool), made: Arm, is_cut: bool, last: bool) {
     assert!(rt; ended == (last || !is_cut, last), "{made:?}");
 }

@@ -4,7 +4,7 @@ ghost use Rattle.std.specs.Prelude.{◌≡◌, Contains};
 use super::*;
 use flt_flash::{BlockFault, Found};
 
-/// Whether the driver finds this in block 8, with these bytes at its front, and tells the same without a read.
+/// Whether the driver finds this in block 8, with these bytes at its front, and says the same without a read.
 fn finds<B: Blocks>(driver: &mut B, wanted: Found, front: &[u8]) -> bool
     requires { Contains (B.state driver.old).numbers 8 }
     ensures { (B.state driver.new).numbers ≡ (B.state driver.old).numbers }

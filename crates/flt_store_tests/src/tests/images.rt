@@ -1,4 +1,4 @@
-//! Images that were changed after a save: what a start-up tells of them.
+//! Images that were changed after a save: what a start-up reports of them.
 ghost use Rattle.flt_code.specs.Word.{IsWord};
 
 use super::rows::{image_of, put_page, saved_flash};
@@ -51,7 +51,7 @@ fn bytes_of(put: Put) -> [u8; 32] {
     }
 }
 
-/// What a start-up is to tell: the number of its generation, or its fault.
+/// What a start-up is to report: the number of its generation, or its fault.
 #[derive(Clone, Copy)]
 enum Told {
     Number(u32),
@@ -85,7 +85,7 @@ fn answer(told: Told) -> Result<u32, StartFault> {
     }
 }
 
-/// How many entries there is room for, two pages of the image of a first save that are changed, and what a start-up tells then.
+/// How many entries there is room for, two pages of the image of a first save that are changed, and what a start-up reports then.
 type Row = (u8, (usize, Put), (usize, Put), Told);
 
 static IMAGES: [Row; 13] = [
@@ -128,7 +128,7 @@ static IMAGES: [Row; 13] = [
     (2, (63, Put::Blank), (63, Put::Blank), Told::OtherRoom),
 ];
 
-/// What a start-up tells of the image of a row: the number of the generation, whose state is the first one or the one that was saved.
+/// What a start-up reports of the image of a row: the number of the generation, whose state is the first one or the one that was saved.
 fn told_of(rt: &impl Abort, alloc: Global, row: Row) -> Result<Result<u32, StartFault>, Fail> {
     let (memory, first, second, _) = row;
     let config = configured(rt, memory, 0, 1);

@@ -115,7 +115,7 @@ fn an_image_is_restored_by_its_second_copy(rt: HostRuntime) -> Result<(), Fail> 
     Ok(())
 }
 
-/// Whether a block is told to be damaged.
+/// Whether a block is reported as damaged.
 fn is_damaged(found: &Result<Restored, StartFault>, id: u16) -> bool {
     match found {
         Err(fault) => *fault == StartFault::Damaged(Place::Block { id }),

@@ -23,7 +23,7 @@ fn word_on(flash: &FlashMem, page: u16) -> Option<Word> {
     }
 }
 
-/// Whether a complete record of the block, of so many bytes, begins at this page of sector 0.
+/// Whether a complete record of the block, of this many bytes, begins at this page of sector 0.
 fn is_record(flash: &FlashMem, page: u16, block: u16, length: u16) -> bool {
     let head = Word::Head {
         block,
@@ -59,7 +59,7 @@ const OLD_STATES: &[Record] = &[(8, 32, 64, true), (30, 17, 10, true)];
 /// A page, a block, a length, and whether a complete record of that begins there.
 type Record = (u16, u16, u16, bool);
 
-/// Steps on a blank flash, further ones, and what stands on sector 0 behind them.
+/// Steps on a blank flash, further ones, and what is on sector 0 after them.
 type Row = (&'static [Step], &'static [Step], &'static [Record]);
 
 /// A flash after a start-up and the first save of an event that failed.
@@ -95,12 +95,12 @@ fn the_first_save_writes_each_block_once(rt: HostRuntime) -> Result<(), Fail> {
     Ok(())
 }
 
-/// Rows of one event, of the states at first, of a failure, and of a pass behind it. The commit decides: where its first gate is cut, the
+/// Rows of one event, of the states at first, of a failure, and of a pass after it. The commit decides: where its first gate is cut, the
 /// first generation or the new one is left by what takes effect, and the third fault is answered. Where the first copy of the commit can't
 /// be read, a start-up and a save after a failed one go by the second, and write the first anew where that can't be read again. A
-/// start-up reads neither page of the states of the generation before, so mutes of them stand; where the second copy of the commit can't
+/// start-up reads neither page of the states of the generation before, so mutes of them remain; where the second copy of the commit can't
 /// be read, it is written. The second save of a state that stays makes 6 programs, and of one in which each block changes 18; a save
-/// after a failed one compares with what stands, and makes 6 again.
+/// after a failed one compares with what is there, and makes 6 again.
 static ROWS: [Row; 18] = [
     // The programs of the first save.
     (
@@ -235,7 +235,7 @@ static ROWS: [Row; 18] = [
     ),
 ];
 
-/// Whether the flash has these records, and has not those that are not to stand.
+/// Whether the flash has these records, and has not those that must not be there.
 fn are_records(flash: &FlashMem, records: &[Record]) -> bool {
     for (page, block, length, stands) in records {
         if is_record(flash, *page, *block, *length) != *stands {
@@ -361,7 +361,7 @@ fn a_missing_first_copy_is_repaired(rt: HostRuntime) -> Result<(), Fail> {
     read_and_repair(&rt, &mut blocks_over(rt.alloc(), flash, &config)?)
 }
 
-/// Whether a start-up answers that it can tell nothing.
+/// Whether a start-up answers that the flash failed it.
 fn is_dark<B: Blocks + Drop>(store: &mut Store<B>, config: &ValidConfig) -> bool
     requires { IsRoomy config.now store.old }
     ensures { SameRoom store.old store.new }
@@ -369,7 +369,7 @@ fn is_dark<B: Blocks + Drop>(store: &mut Store<B>, config: &ValidConfig) -> bool
     matches!(start(store, config), Err(StartFault::Flash))
 }
 
-/// With the second copy muted a start-up can tell nothing, and the next one restores by it.
+/// With the second copy muted a start-up can say nothing, and the next one restores by it.
 #[test]
 fn a_missing_first_copy_beside_a_muted_one_is_dark(rt: HostRuntime) -> Result<(), Fail> {
     let config = configured(&rt, 1, 0, 1);
@@ -398,7 +398,7 @@ fn name_last(image: &mut Vec<[u8; 32]>, page: usize)
     }
 }
 
-/// A save behind the last generation, and the life after it.
+/// A save after the last generation, and the life after it.
 static LAST: [Step; 2] = [
     Step::Save(0, Err(SaveFault::Spent)),
     Step::Life(u32::MAX, 0),
@@ -473,8 +473,8 @@ pub(super) fn of_version_1(rt: &impl Abort, alloc: Global) -> Result<FlashMem, F
     Ok(FlashMem::of(alloc, image, 2)?)
 }
 
-/// A start-up writes the mark anew; the save behind it is cut at its first program, or at the fourth, where the first copy of its
-/// commit stands in version 2 and the second still names the generation before in version 1.
+/// A start-up writes the mark anew; the save after it is cut at its first program, or at the fourth, where the first copy of its
+/// commit is there in version 2 and the second still names the generation before in version 1.
 static OLD_ROWS: [[Step; 4]; 2] = [
     [
         Step::Cut(1, Pattern::Nothing),

@@ -5,7 +5,7 @@ ghost use Rattle.flt_store_tests.specs.Room.{IsRoomy, SameRoom};
 
 use super::*;
 
-/// A step of a worked example. A state is told by its place in the example's list.
+/// A step of a worked example. A state is given by its place in the example's list.
 #[derive(Clone, Copy)]
 pub(super) enum Step {
     // The program or erase of this number fails, and takes no effect.
@@ -16,7 +16,7 @@ pub(super) enum Step {
     Mute(u16, u16),
     // A save of this state answers so.
     Save(usize, Result<u32, SaveFault>),
-    // So many arms stand.
+    // There are this many arms.
     Armed(u8),
     // The power comes back, and the start-up answers this number and state.
     Life(u32, usize),
@@ -29,7 +29,7 @@ fn state_at(states: &[Persist], place: usize) -> Result<&Persist, Fail> {
     }
 }
 
-/// Turns the power on again and starts up, and tells whether that answers this number and state.
+/// Turns the power on again and starts up, and returns whether that answers this number and state.
 fn lives<B: Blocks + Drop>(
     store: &mut Store<B>,
     config: &ValidConfig,
@@ -47,7 +47,7 @@ fn lives<B: Blocks + Drop>(
     }
 }
 
-/// Takes a step, and tells whether it goes as it says.
+/// Takes a step, and returns whether it goes as it says.
 fn take<B: Blocks + Drop>(
     rt: &impl Abort,
     store: &mut Store<B>,

@@ -1,5 +1,5 @@
 //! The jobs over a flash and an EEPROM that a store of bytes keeps, which stops in each write after each number of its bytes: what the bytes
-//! then hold is opened again, and says what stood before the call that failed, or what it asked for.
+//! then hold is opened again, and says what was there before the call that failed, or what it asked for.
 ghost use Rattle.std.specs.Prelude.{◌≡◌, IfOk, Some};
 ghost use Rattle.flt_file.specs.MemBytes.{memory_bytes};
 ghost use Rattle.flt_store_tests.specs.Room.{IsRoomy, SameRoom};
@@ -16,7 +16,7 @@ const FLASH_BYTES: usize = 4096;
 
 const UNITS_BYTES: usize = 34_880;
 
-/// A job on bytes, behind its start-up, with what these say, and how many writes it makes.
+/// A job on bytes, after its start-up, with what these say, and how many writes it makes.
 #[derive(Drop)]
 struct Case<'a> {
     bytes: &'a [u8],
@@ -25,7 +25,7 @@ struct Case<'a> {
     writes: u32,
 }
 
-/// Where a store of bytes stops: in the write of this number, counted from 1, after so many bytes.
+/// Where a store of bytes stops: in the write of this number, counted from 1, after this many bytes.
 #[derive(Clone, Copy, Debug)]
 struct Stop {
     write: u32,
@@ -102,7 +102,7 @@ fn units_store_in(
     store_of_units(alloc, units_over(alloc, device)?)
 }
 
-/// Turns the power on, and makes a job until a call fails: what stood before the last call, and what it asked for.
+/// Turns the power on, and makes a job until a call fails: what was there before the last call, and what it asked for.
 fn live<B: Blocks + Drop>(
     rt: &impl Abort,
     store: &mut Store<B>,
@@ -133,7 +133,7 @@ fn says<B: Blocks + Drop>(
     Ok(found == before || found == asked)
 }
 
-/// Makes a job on a flash in bytes that stop, and opens them again. It tells how long the write was that stopped.
+/// Makes a job on a flash in bytes that stop, and opens them again. It returns how long the write was that stopped.
 fn flash_stops(
     rt: &impl Abort,
     alloc: Global,
@@ -167,7 +167,7 @@ fn units_stop(
     Ok(noted.stopped)
 }
 
-/// One write of a job on a flash stops after each number of its bytes. It tells how many it has.
+/// One write of a job on a flash stops after each number of its bytes. It returns how many it has.
 fn write_stops(
     rt: &impl Abort,
     alloc: Global,

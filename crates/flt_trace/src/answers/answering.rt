@@ -12,7 +12,7 @@ use flt_model::Op;
 use flt_report::put_kept_reply;
 use std::alloc::{AllocError, Global};
 
-/// The text of a reply of a lane, whose response stands among these bytes.
+/// The text of a reply of a lane, whose response is among these bytes.
 fn reply_text(alloc: Global, reply: &KeptReply, responses: &[u8]) -> Result<String, AllocError>
     requires { IsReplyWithin (length responses.now) reply.now }
     ensures { IfOk result (λ text. string_bytes text ≡ reply_text (reply_in responses.now reply.now)) }

@@ -7,7 +7,7 @@ use crate::object::trace::Trace;
 use json::{Reader, Scratch, Token};
 use std::alloc::{AllocError, Global};
 
-/// The strings of an array that is open, up to its end; nothing where it has something else. There is room for so many without a copy.
+/// The strings of an array that is open, up to its end; nothing where it has something else. There is room for this many without a copy.
 fn strings_left<'a>(
     alloc: Global,
     reader: &mut Reader<'a>,
@@ -26,7 +26,7 @@ fn strings_left<'a>(
     Ok(None)
 }
 
-/// The strings of a member of this key, which is next; nothing where something else is. There is room for so many without a copy.
+/// The strings of a member of this key, which is next; nothing where something else is. There is room for this many without a copy.
 fn strings_of<'a>(
     alloc: Global,
     reader: &mut Reader<'a>,
@@ -65,7 +65,7 @@ fn last_string<'a>(reader: &mut Reader<'a>, key: &str) -> Option<&'a str>
     }
 }
 
-/// The texts of a trace whose keys stand in the order of print.
+/// The texts of a trace whose keys are in the order of print.
 fn texts_in_order<'a>(
     alloc: Global,
     mut reader: Reader<'a>,
@@ -95,7 +95,7 @@ fn texts_in_order<'a>(
     }))
 }
 
-/// The trace that bytes are, where its keys stand once each and in the order in which they are printed: its strings are lent by the bytes
+/// The trace that bytes are, where each of its keys is there once and in the order in which they are printed: its strings are lent by the bytes
 /// and by `scratch`, and no value is built. Nothing comes of other bytes, which may be a trace all the same. The error means that memory ran out.
 pub fn read_line<'a>(
     alloc: Global,

@@ -39,7 +39,7 @@ first_unlike-requires-clause-many g c =
       ap length c.deref-4.ensures.value,
     )
 
--- The life that the texts tell, and the first place at which its answers differ.
+-- The life that the texts describe, and the first place at which its answers differ.
 life : (g : _) (c : In_ok-first_unlike g) → (told : ToldLife) × TellsLife (dids_of c.args.dids) (texts_of c.args.trace.now) told
     × (c.in_ok-first_unlike.field-0 ≡ unlike_from 0 (texts_of c.args.trace.now).answers (due_texts told))
 life g c =

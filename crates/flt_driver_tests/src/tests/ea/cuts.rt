@@ -11,7 +11,7 @@ const UNITS: u16 = 20;
 const OPERATIONS: u32 = 22;
 
 /// Runs the job over a blank device with this arm, and reads the blocks with the power on again, a second time where the arm
-/// made that fail. It tells whether all of the job was made.
+/// made that fail. It answers whether all of the job was made.
 fn run_case(rt: &impl Abort, alloc: Global, arm: Arm) -> Result<bool, Fail>
     requires { CanArm arm }
 {

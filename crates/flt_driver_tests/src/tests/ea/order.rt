@@ -1,10 +1,10 @@
-//! The order of the writes of a record, by the units that stand after a cut before each of them, and the units that a mute is of.
+//! The order of the writes of a record, by the units that are there after a cut before each of them, and the units that a mute is of.
 use super::*;
 
 /// How many units a device has whose units do not fit into sector 0.
 const MANY: u16 = 1090;
 
-/// The unit of a gate of block 8 of this kind, for so many bytes.
+/// The unit of a gate of block 8 of this kind, for this many bytes.
 fn gate(kind: u8, length: u8, sequence: u8) -> [u8; 32] {
     seal(&[
         0x45, kind, 0, 8, 0, length, 0, 0, 0, sequence, 0, 0, 0, 0, 0, 0,
@@ -44,7 +44,7 @@ fn has_units(device: &EepromMem, first: &[[u8; 32]; 3], second: &[[u8; 32]; 3]) 
     device.units() == 20
 }
 
-/// What block 8 is given after two records of forty bytes, with a cut before the write of this number, and the device behind it.
+/// What block 8 is given after two records of forty bytes, with a cut before the write of this number, and the device after it.
 fn third(rt: &impl Abort, alloc: Global, after: u32, step: Step) -> Result<EepromMem, Fail> {
     let steps = [
         Step::Write(8, 40, 1, Ok(())),

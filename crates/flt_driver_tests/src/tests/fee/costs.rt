@@ -1,7 +1,7 @@
 //! What calls cost of operations and of erases, counted on the flash.
 use super::*;
 
-/// Calls, the operations behind each, and the erases of sector 1. A mount reads four gates; on a blank flash it erases a sector and programs
+/// Calls, the operations after each, and the erases of sector 1. A mount reads four gates; on a blank flash it erases a sector and programs
 /// two. A record costs its pages, a read the pages of its bytes. A later mount reads two pages a record and those from the end on, the
 /// first of them twice (4 + 6 + 1 + 53). A switch erases once, programs two gates and copies each page of bytes by a read and a program
 /// (3 + 4 + 6, and then the new record).

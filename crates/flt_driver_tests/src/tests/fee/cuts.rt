@@ -1,4 +1,4 @@
-//! A fixed job, each of whose programs and erases is cut or fails by each pattern: what stands then is what the definition says.
+//! A fixed job, each of whose programs and erases is cut or fails by each pattern: what is there then is what the definition says.
 ghost use Rattle.flt_flash.specs.State.{CanArm};
 
 use super::*;
@@ -75,7 +75,7 @@ fn told(flash: &FlashMem, block: u16) -> Held {
 }
 
 /// Runs the job over a blank flash with this arm, and reads the blocks with the power on again, a second time where the arm
-/// made that fail. It tells whether all of the job was made.
+/// made that fail. It answers whether all of the job was made.
 fn run_case(rt: &impl Abort, alloc: Global, arm: Arm) -> Result<bool, Fail>
     requires { CanArm arm }
 {

@@ -63,7 +63,7 @@ fn begun(alloc: Global) -> Result<FlashMem, Fail>
     Ok(flash)
 }
 
-/// Stops the test unless the item of sector 0 at this page is told so.
+/// Stops the test unless the item of sector 0 at this page is reported so.
 fn assert_item(
     rt: &impl Abort,
     flash: &mut FlashMem,
@@ -79,7 +79,7 @@ fn assert_item(
     assert!(rt; item(flash, 0, 64, page, numbers) == wanted, "page {page}");
 }
 
-/// Stops the test unless the gates of sector 0 tell this number.
+/// Stops the test unless the gates of sector 0 give this number.
 fn assert_gates(rt: &impl Abort, flash: &mut FlashMem, wanted: Option<u32>)
     requires { (flash_state flash.old).pages ≡ 64 }
     ensures { (flash_state flash.new).pages ≡ 64 }
@@ -124,7 +124,7 @@ fn put_active(rt: &impl Abort, flash: &mut FlashMem) -> Result<(), FlashFailed>
     activate(flash, 0, 1)
 }
 
-/// Puts a record on a sector that is begun, and looks at it before and behind its gate.
+/// Puts a record on a sector that is begun, and looks at it before and after its gate.
 fn keep(rt: &impl Abort, flash: &mut FlashMem, numbers: &Numbers) -> Result<(), FlashFailed>
     requires { (flash_state flash.old).pages ≡ 64 }
     ensures { (flash_state flash.new).pages ≡ 64 }
@@ -161,7 +161,7 @@ fn a_record_is_kept(rt: HostRuntime) -> Result<(), Fail> {
     Ok(())
 }
 
-/// Cuts the program of a head, and looks at it before the power comes back and behind that.
+/// Cuts the program of a head, and looks at it before the power comes back and after that.
 fn tear(rt: &impl Abort, flash: &mut FlashMem, numbers: &Numbers)
     requires pages { (flash_state flash.old).pages ≡ 64 }
     requires boots { (flash_state flash.old).bench.boots_left ≡ 2 }

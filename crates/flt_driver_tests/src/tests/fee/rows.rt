@@ -12,7 +12,7 @@ const FIRST_BYTES: Arm = Arm::Mute {
     times: 1,
 };
 
-/// Rows on a blank flash, and how often each sector was erased behind them.
+/// Rows on a blank flash, and how often each sector was erased after them.
 static ROWS: [(&str, &[Step], (u64, u64)); 3] = [
     ("a block is written and made invalid", WRITTEN, (1, 0)),
     (

@@ -11,7 +11,7 @@ const FLASH_WRITES: u64 = 43;
 /// The number of writes of units of the job, as `ea/cuts.rt` has it.
 const EEPROM_WRITES: u64 = 22;
 
-/// Makes the job over a blank flash whose store fails from this read or write on, and opens again what it kept. It tells whether all of
+/// Makes the job over a blank flash whose store fails from this read or write on, and opens again what it kept. It answers whether all of
 /// the job was made, or nothing where the store was not read.
 fn flash_fails(
     rt: &impl Abort,
@@ -58,7 +58,7 @@ fn eeprom_fails(
     }
 }
 
-/// What is told of a job of so many writes over a store that fails from this read or write on: the first one is the read.
+/// What is known of a job of this many writes over a store that fails from this read or write on: the first one is the read.
 fn told(failing: u64, writes: u64) -> Option<bool> {
     if failing == 0 {
         None

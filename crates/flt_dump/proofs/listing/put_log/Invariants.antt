@@ -8,8 +8,8 @@ abbrev pub invariant-log : goal.invariant-log
 invariant-log l = record {
   image : (copy_state l.copy).image ≡ (copy_state l.fn.copy).image;
   pages : (copy_state l.copy).pages ≡ (copy_state l.fn.copy).pages;
-  puts : Puts l.used l.numbers (sector_at (copy_state l.fn.copy).image l.sector) l.fn.out.items l.out.items l.page;
+  puts : Puts l.at.used l.numbers (sector_at (copy_state l.fn.copy).image l.at.sector) l.fn.out.items l.out.items l.page;
 }
 
 abbrev pub decreases-log : goal.decreases-log
-decreases-log l = l.used - l.page
+decreases-log l = l.at.used - l.page

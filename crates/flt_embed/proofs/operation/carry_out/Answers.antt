@@ -11,13 +11,13 @@ loop-operation-preserved c =
     let at = c.loop-operation.operation-index in
     let image = c.loop-operation.image.items in
     record {
-      carried = ap (carried pages (drop (at + 1) all)) c.carry.ensures.carried
-          ∙ sym (at_drop_more (λ (left : List Operation). carried pages left image) all at _ c.loop-operation-test.true) ∙ c.loop-operation.invariant.carried;
+      image = ap (carried pages (drop (at + 1) all)) c.carry.ensures.image
+          ∙ sym (at_drop_more (λ (left : List Operation). carried pages left image) all at _ c.loop-operation-test.true) ∙ c.loop-operation.invariant.image;
       size = c.carry.ensures.size ∙ c.loop-operation.invariant.size;
     }
 
-pub returns-clause-carried : goal.returns-clause-carried
-returns-clause-carried c =
+pub returns-clause-image : goal.returns-clause-image
+returns-clause-image c =
     let all = c.args.operations.now in
     let image = c.loop-operation.image.items in
-    sym (ap (λ (left : List Operation). carried c.args.pages left image) (drop_all c.loop-operation.operation-index all c.loop-operation-test.false)) ∙ c.loop-operation.invariant.carried
+    sym (ap (λ (left : List Operation). carried c.args.pages left image) (drop_all c.loop-operation.operation-index all c.loop-operation-test.false)) ∙ c.loop-operation.invariant.image

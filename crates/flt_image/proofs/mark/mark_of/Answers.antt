@@ -4,8 +4,8 @@ use Rattle.flt_config.specs.declared.config.Config.{Config}
 use Rattle.flt_store_model.specs.declared.mark.Mark.{Mark}
 use Rattle.flt_image.proofs.mark.mark_of.Goals as goal
 
-pub returns-clause-given : goal.returns-clause-given
-returns-clause-given c =
+pub returns-clause-valid_config : goal.returns-clause-valid_config
+returns-clause-valid_config c =
     let id = subst (λ (m : Mark). m.id < 65536) c.mark_with.ensures.value (omega (arith, c.mark_with.ensures.fields.id)) in
     let events : length c.config-config.result.now.events.items ≤ EVENTS = omega (arith, c.len.ensures.value, c.len.ensures.fits) in
     record {

@@ -37,7 +37,7 @@ returns-clause-wrote g c = λ config same.
       running = λ held spare running. (c.put_block.ensures.running config within held spare running).running;
       rose = λ held spare running unspent. rose_by result before.device.faults after.device.faults after.is_spent (c.put_block.ensures.running config within held spare running).flash
           (λ is. g.met.B.Blocks.stuck_is_spent c.put_block.new.self.nvm.blocks _ _ (c.put_block.ensures.puts.sequence is)) counts unspent;
-      follows = c.put_block.ensures.calls;
+      keeps_driver = c.put_block.ensures.calls;
     } in
     subst (λ w. WritesJob config job w c.args.store.now c.put_block.new.self) (sym c.is_ok-written.ensures.value) put
 

@@ -39,7 +39,7 @@ loop-index-preserved g c =
     let possible = possible_next c.args.locks.now c.args.lane.now c.loop-index.lane c.loop-index.index step c.requires.ready on.part (search rules) c.index-steps-index.is in
     let more = goes_on c.args.locks.now c.args.lane.now _ c.loop-index.index step c.requires.ready on.part (search rules) c.index-steps-index.is _ taken.made refl refl c.do_step.ensures.lock c.do_step.ensures.queue in
     storing_more c.args.config.now c.args.locks.now c.args.lane.now _ _ c.loop-index.index step taken.made.answer c.args.store.now _ c.do_step.new.store (search rules) c.index-steps-index.is on more taken.made.keeps.told taken.carries
-    (leaves_step step _ c.do_step.new.store possible.0 taken.goes_on taken.given taken.armed)
+    (leaves_step step _ c.do_step.new.store possible.0 taken.keeps_driver taken.arms_made taken.armed)
 
 pub returns-clause-ran : goal.returns-clause-ran
 returns-clause-ran g c =

@@ -11,6 +11,7 @@ use Rattle.flt_queue.specs.Queue.{History}
 use Rattle.flt_step.specs.declared.step.Step.TheVariants as steps
 use Rattle.flt_store.specs.declared.store.Store.{Store}
 use Rattle.flt_store.specs.Store.{IsAlive, IsRunning, driver_of}
+use Rattle.flt_store.proofs.Applying.{below_limit}
 use Rattle.flt_life_model.specs.Answers.{Told}
 use Rattle.flt_life_model.specs.Applications.{AreHeld, GetsBy, answers_of, jobs_told}
 use Rattle.flt_life_model.specs.Ordered.{Deed}
@@ -49,7 +50,7 @@ short g c =
     let alive = c.requires.alive.2 in
     let content = (driver_of c.args.store.now).value (application_number c.args.block) in
     let got = (c.in-Ok-true.ensures.running c.requires.alive.0 alive.held alive.spare alive.running).got in
-    let is = subst (λ d. IsTrue (is_application d)) (gets_bytes content c.in-Ok-true.field-0 _ got c.in-Ok-true.field-0-test) (alive.running.sound.holds.applications c.args.block c.requires.block) in
+    let is = subst (λ d. IsTrue (is_application d)) (gets_bytes content c.in-Ok-true.field-0 _ got c.in-Ok-true.field-0-test) (alive.running.sound.holds.applications c.args.block (below_limit c.requires.alive)) in
     omega (arith, leb-true (length c.get_block.new.out.items) 32 is)
 
 pub keep-requires-clause-responses : goal.keep-requires-clause-responses
@@ -65,7 +66,7 @@ returns-in-Ok-true g c = record {
       (none_made seat (steps.Get c.args.block) told (tt, refl)) (none_queued jobs (steps.Get c.args.block) told refl)
       (λ earlier. read_carries config seat jobs earlier c.args.block told c.args.store.now c.get_block.new.self c.get_block.ensures.values (λ held spare running. (c.get_block.ensures.running config held spare running).running) tt refl refl refl
       (λ begun caused. caused_read config begun (answers_of earlier) c.args.store.now c.get_block.new.self caused told tt c.get_block.ensures.calls (c.get_block.ensures.running config caused.held_now caused.spare_now caused.running).running)
-      (λ alive first past held. held_by first past earlier (driver_of c.args.store.now).value c.args.block _ c.requires.block
+      (λ alive first past held. held_by first past earlier (driver_of c.args.store.now).value c.args.block _ (below_limit c.requires.alive)
       (gets_bytes _ c.in-Ok-true.field-0 _ (c.in-Ok-true.ensures.running config alive.held alive.spare alive.running).got c.in-Ok-true.field-0-test) held))
       (leaves_by_calls c.args.store.now c.get_block.new.self c.get_block.ensures.calls);
 }
@@ -80,7 +81,7 @@ returns-in-Ok-false g c = record {
       (none_made seat (steps.Get c.args.block) told (tt, refl)) (none_queued jobs (steps.Get c.args.block) told refl)
       (λ earlier. read_carries config seat jobs earlier c.args.block told c.args.store.now c.get_block.new.self c.get_block.ensures.values (λ held spare running. (c.get_block.ensures.running config held spare running).running) tt refl refl refl
       (λ begun caused. caused_read config begun (answers_of earlier) c.args.store.now c.get_block.new.self caused told tt c.get_block.ensures.calls (c.get_block.ensures.running config caused.held_now caused.spare_now caused.running).running)
-      (λ alive first past held. held_by first past earlier (driver_of c.args.store.now).value c.args.block _ c.requires.block
+      (λ alive first past held. held_by first past earlier (driver_of c.args.store.now).value c.args.block _ (below_limit c.requires.alive)
       (gets_none _ c.in-Ok-false.field-0 _ (c.in-Ok-false.ensures.running config alive.held alive.spare alive.running).got c.in-Ok-false.field-0-test) held))
       (leaves_by_calls c.args.store.now c.get_block.new.self c.get_block.ensures.calls);
 }

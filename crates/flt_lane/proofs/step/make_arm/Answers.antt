@@ -19,8 +19,8 @@ returns g c =
           queue = none_queued jobs step Armed refl;
         };
         carries = λ earlier. carries_arm config seat jobs earlier c.args.store.now c.arm.new.self _ c.arm.ensures.arms (c.arm.ensures.running config);
-        goes_on = search rules;
-        given = search rules;
+        keeps_driver = search rules;
+        arms_made = search rules;
         armed = search rules;
       };
     }

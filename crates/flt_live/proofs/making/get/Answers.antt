@@ -25,8 +25,8 @@ read_on c first journal told unit store next answer none running living = record
   kept = kept_other c first journal told living.held living.spare living.kept answer none;
 }
 
-pub get_block-requires-clause-alive : goal.get_block-requires-clause-alive
-get_block-requires-clause-alive g c = (c.args.config.now, c.requires.block, c.requires.alive)
+pub get_block-requires : goal.get_block-requires
+get_block-requires g c = record { alive = (c.args.config.now, c.requires.block, c.requires.alive) }
 
 pub returns-in-Ok-true-clause-alive : goal.returns-in-Ok-true-clause-alive
 returns-in-Ok-true-clause-alive g c = record { held = _; spare = _; running = (c.get_block.ensures.running c.args.config.now c.requires.alive.held c.requires.alive.spare c.requires.alive.running).running }
@@ -45,7 +45,7 @@ returns-in-Ok-true-clause-reads g c = λ response. record {
       caused_read c.args.config.now begun told c.args.store.now c.get_block.new.self caused (answers.Bytes c.get_block.new.out) tt c.get_block.ensures.calls (c.get_block.ensures.running c.args.config.now caused.held_now caused.spare_now caused.running).running;
   found = gets_bytes _ c.in-Ok-true.field-0 _ (c.in-Ok-true.ensures.running c.args.config.now c.requires.alive.held c.requires.alive.spare c.requires.alive.running).got c.in-Ok-true.field-0-test;
   values = c.get_block.ensures.values;
-  follows = c.get_block.ensures.calls;
+  keeps_driver = c.get_block.ensures.calls;
 }
 
 pub returns-in-Ok-false-clause-reads : goal.returns-in-Ok-false-clause-reads
@@ -56,7 +56,7 @@ returns-in-Ok-false-clause-reads g c = λ response. record {
       caused_read c.args.config.now begun told c.args.store.now c.get_block.new.self caused (answers.NoBlock) tt c.get_block.ensures.calls (c.get_block.ensures.running c.args.config.now caused.held_now caused.spare_now caused.running).running;
   found = gets_none _ c.in-Ok-false.field-0 _ (c.in-Ok-false.ensures.running c.args.config.now c.requires.alive.held c.requires.alive.spare c.requires.alive.running).got c.in-Ok-false.field-0-test;
   values = c.get_block.ensures.values;
-  follows = c.get_block.ensures.calls;
+  keeps_driver = c.get_block.ensures.calls;
 }
 
 pub returns-in-Err-clause-reads : goal.returns-in-Err-clause-reads
@@ -68,5 +68,5 @@ returns-in-Err-clause-reads g c = λ response. record {
       (c.in-Err.ensures.running c.args.config.now caused.held_now caused.spare_now caused.running).flash (c.get_block.ensures.running c.args.config.now caused.held_now caused.spare_now caused.running).running;
   found = tt;
   values = c.get_block.ensures.values;
-  follows = c.get_block.ensures.calls;
+  keeps_driver = c.get_block.ensures.calls;
 }

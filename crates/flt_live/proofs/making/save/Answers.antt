@@ -24,7 +24,7 @@ returns-in-Ok-clause-saves g c = λ response. record {
       caused_saved c.args.config.now begun told c.args.store.now c.save.new.self caused c.take_snapshot.new.buffers.state c.in-Ok.generation c.save.ensures.driver.calls
       (c.in-Ok.ensures.answers caused.held_now caused.spare_now caused.running).saved;
   applications = c.save.ensures.driver.applications;
-  follows = c.save.ensures.driver.calls;
+  keeps_driver = c.save.ensures.driver.calls;
 }
 
 pub returns-in-Err-clause-saves : goal.returns-in-Err-clause-saves
@@ -50,5 +50,5 @@ returns-in-Err-clause-saves g c = λ response. record {
       (λ is. (c.in-Err.ensures.causes caused.held_now caused.spare_now caused.running).spent (ap Err is))
       (λ is. (let stuck = (c.in-Err.ensures.causes caused.held_now caused.spare_now caused.running).sequence (ap Err is) in g.met.D.Blocks.stuck_is_spent c.save.new.self.nvm.blocks stuck.0 stuck.1 stuck.3));
   applications = c.save.ensures.driver.applications;
-  follows = c.save.ensures.driver.calls;
+  keeps_driver = c.save.ensures.driver.calls;
 }

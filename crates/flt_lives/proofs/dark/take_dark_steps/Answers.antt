@@ -60,9 +60,9 @@ loop-part-preserved g c =
       responses = made.answers.responses ∙ inv.responses;
       bytes = omega (arith, bytes, inv_bytes);
       same = made.same ∙ inv.same;
-      goes_on = goes_further _ _ _ inv.goes_on made.gives.goes_on;
-      given = subst (λ arms. WereGiven arms first_arms last_arms) (sym (ap all_arms actions ∙ all_arms-append (own_actions front) (own_actions one)))
-          (given_further (all_arms (own_actions front)) (all_arms (own_actions one)) first_arms (driver_of c.loop-part.store).device.bench.arms last_arms inv.given made.gives.given);
+      keeps_driver = goes_further _ _ _ inv.keeps_driver made.gives.keeps_driver;
+      arms_made = subst (λ arms. WereGiven arms first_arms last_arms) (sym (ap all_arms actions ∙ all_arms-append (own_actions front) (own_actions one)))
+          (given_further (all_arms (own_actions front)) (all_arms (own_actions one)) first_arms (driver_of c.loop-part.store).device.bench.arms last_arms inv.arms_made made.gives.arms_made);
       armed = omega (arith, sum, armed, inv_armed);
     }
 
@@ -70,4 +70,4 @@ pub returns-clause-gives : goal.returns-clause-gives
 returns-clause-gives g c =
     let inv = c.loop-part.invariant in
     let all = take_all c.loop-part.part-index c.args.parts.now c.loop-part-test.false in
-    record { goes_on = inv.goes_on; given = rw all at inv.given; armed = rw all at inv.armed }
+    record { keeps_driver = inv.keeps_driver; arms_made = rw all at inv.arms_made; armed = rw all at inv.armed }

@@ -20,7 +20,7 @@ invariant-loop-part g l = record {
   responses : vec_len l.own.responses ≡ vec_len l.fn.own.responses;
   bytes : byte_room l.fn.own.responses ≤ byte_room l.own.responses;
   same : moment_of (driver_of l.store) ≡ moment_of (driver_of l.fn.store);
-  goes_on : GoesOn (driver_of l.fn.store) (driver_of l.store);
-  given : WereGiven (all_arms (own_actions (parts_of (take l.part-index l.parts)))) (driver_of l.fn.store).device.bench.arms (driver_of l.store).device.bench.arms;
+  keeps_driver : GoesOn (driver_of l.fn.store) (driver_of l.store);
+  arms_made : WereGiven (all_arms (own_actions (parts_of (take l.part-index l.parts)))) (driver_of l.fn.store).device.bench.arms (driver_of l.store).device.bench.arms;
   armed : (driver_of l.store).device.bench.armed ≤ (driver_of l.fn.store).device.bench.armed + sum_by arms_in (parts_of (take l.part-index l.parts));
 }

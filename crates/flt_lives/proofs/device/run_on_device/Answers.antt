@@ -24,7 +24,7 @@ returns-in-Ok-open g c =
     let keeps = g.met.D.Driver.keeps c.args.config.now in
     rw c.ok-lives.ensures.value
     (left_on_device c.args.config.now medium c.args.lives.now c.run_lives.result g.D.Blocks c.make-store.result c.run_lives.new.store keeps
-    (subst (λ (driver : BlocksState). HasRoom c.args.config.now driver.room) (sym made) c.in-Ok-open.ensures.room) left.lived left.left
+    (subst (λ (driver : BlocksState). HasRoom c.args.config.now driver.room) (sym made) c.in-Ok-open.ensures.room) left.lived left.stays_sound
     (device_of (g.D.Driver.device_state c.args.device)) (device_of (g.D.Driver.device_state c.close.result))
     (ap (λ (driver : BlocksState). driver.device) made ∙ c.in-Ok-open.ensures.device)
     (sym (c.close.ensures ∙ ap (λ (driver : BlocksState). driver.device) c.retire.ensures)))

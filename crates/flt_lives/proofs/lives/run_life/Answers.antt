@@ -34,8 +34,8 @@ live-requires-clause-fit g c =
     let started = c.start_up.ensures.driver.calls.bench.armed in
     record { possible = fit.possible; few = fit.few; numbers = fit.numbers; indices = fit.indices; arms = omega (arith, most, powered, started) }
 
-pub returns-in_err-room-clause-left : goal.returns-in_err-room-clause-left
-returns-in_err-room-clause-left g c = record { begun = none_begun 1 (driver_of c.args.store.now).device; sound = λ h s sound. (h, s, sound); room = refl }
+pub returns-in_err-room-clause-stays_sound : goal.returns-in_err-room-clause-stays_sound
+returns-in_err-room-clause-stays_sound g c = record { begun = none_begun 1 (driver_of c.args.store.now).device; sound = λ h s sound. (h, s, sound); room = refl }
 
 -- ---- a life that started
 
@@ -56,21 +56,21 @@ returns-in-Ok-clause-lived g c =
     let armed = stays.armed in
     if_ok c.live.result (λ lived life. record {
       lived = lived_started config first c.power_up.new.self c.start_up.new.self powers c.in-Ok.generation c.start_up.new.out
-          last (view_of parts lived.life) started follows stays.goes_on life.boot life.leaves (life.caused (moment_of second) follows.counts)
-          (keeps_from_boot config (moment_of second) (moment_of third) (moment_of last) (view_of parts lived.life) started.running.served.given.valid c.requires.fit.possible
+          last (view_of parts lived.life) started follows stays.keeps_driver life.boot life.leaves (life.caused (moment_of second) follows.counts)
+          (keeps_from_boot config (moment_of second) (moment_of third) (moment_of last) (view_of parts lived.life) started.running.served.valid_config.valid c.requires.fit.possible
           c.start_up.ensures.driver.applications life.kept);
       played = life.played;
-      given = subst (λ b. WereGiven (arms_by parts b) first.device.bench.arms last.device.bench.arms) (sym life.boot)
-          (subst (λ a. WereGiven (all_arms (own_actions parts)) a last.device.bench.arms) (follows.bench.arms ∙ powers.bench.arms) life.given);
-      adds = adds_life first second powers third last follows stays.goes_on;
+      arms_made = subst (λ b. WereGiven (arms_by parts b) first.device.bench.arms last.device.bench.arms) (sym life.boot)
+          (subst (λ a. WereGiven (all_arms (own_actions parts)) a last.device.bench.arms) (follows.bench.arms ∙ powers.bench.arms) life.arms_made);
+      adds = adds_life first second powers third last follows stays.keeps_driver;
       armed = omega (arith, powered, begun, armed);
     }) c.live.ensures.lived
 
-pub returns-in-Ok-clause-left : goal.returns-in-Ok-clause-left
-returns-in-Ok-clause-left g c =
+pub returns-in-Ok-clause-stays_sound : goal.returns-in-Ok-clause-stays_sound
+returns-in-Ok-clause-stays_sound g c =
     let alive = c.live.ensures.stays.alive in
     let adds = adds_life (driver_of c.args.store.now) (driver_of c.power_up.new.self) c.power_up.ensures.powers_up (driver_of c.start_up.new.self) (driver_of c.live.new.store)
-    c.start_up.ensures.driver.calls c.live.ensures.stays.goes_on in
+    c.start_up.ensures.driver.calls c.live.ensures.stays.keeps_driver in
     record {
       begun = one_begun (driver_of c.args.store.now).device (driver_of c.live.new.store).device adds.boots;
       sound = λ h s sound. (alive.held, alive.spare, record { undamaged = g.met.D.Blocks.mounted_is_sound c.live.new.store.nvm.blocks alive.running.served.mounted; sound = alive.running.sound });
@@ -97,24 +97,24 @@ returns-in-Err-Flash-clause-lived g c =
     let armed = dark.gives.armed in
     let whole : IsLivedThrough config first last (record { parts = parts; boot = boots.Dark; journal = []; queue = []; own = told; lanes = lanes }) = record {
       lived = lived_dark config first c.power_up.new.self c.start_up.new.self powers parts last told lanes
-          (subst (RefusedFor config c.power_up.new.self c.start_up.new.self) c.in-Err-Flash.field-0-is c.in-Err-Flash.ensures.causes.refused) follows dark.gives.goes_on dark.same
+          (subst (RefusedFor config c.power_up.new.self c.start_up.new.self) c.in-Err-Flash.field-0-is c.in-Err-Flash.ensures.causes.refused) follows dark.gives.keeps_driver dark.same
           (keeps config second third follows c.in-Err-Flash.ensures.generations) c.start_up.ensures.driver.applications;
       played = (refl, refl, refl, refl);
-      given = subst (λ a. WereGiven (all_arms (own_actions parts)) a last.device.bench.arms) (follows.bench.arms ∙ powers.bench.arms) dark.gives.given;
-      adds = adds_life first second powers third last follows dark.gives.goes_on;
+      arms_made = subst (λ a. WereGiven (all_arms (own_actions parts)) a last.device.bench.arms) (follows.bench.arms ∙ powers.bench.arms) dark.gives.arms_made;
+      adds = adds_life first second powers third last follows dark.gives.keeps_driver;
       armed = omega (arith, powered, begun, armed);
     } in
     subst (λ (v : LifeView). IsLivedThrough config first last v) (sym dark.life) whole
 
-pub returns-in-Err-Flash-clause-left : goal.returns-in-Err-Flash-clause-left
-returns-in-Err-Flash-clause-left g c =
+pub returns-in-Err-Flash-clause-stays_sound : goal.returns-in-Err-Flash-clause-stays_sound
+returns-in-Err-Flash-clause-stays_sound g c =
     let first = driver_of c.args.store.now in
     let second = driver_of c.power_up.new.self in
     let third = driver_of c.start_up.new.self in
     let powers = c.power_up.ensures.powers_up in
     let follows = c.start_up.ensures.driver.calls in
     let dark = c.dark_life-life.ensures in
-    let adds = adds_life first second powers third (driver_of c.dark_life-life.new.store) follows dark.gives.goes_on in
+    let adds = adds_life first second powers third (driver_of c.dark_life-life.new.store) follows dark.gives.keeps_driver in
     record {
       begun = one_begun first.device (driver_of c.dark_life-life.new.store).device adds.boots;
       sound = subst (λ (m : Moment). StaysSound c.args.config.now (moment_of first) m) (sym dark.same)
@@ -140,14 +140,14 @@ returns-in-Err-clause-lived g c =
       lived = lived_refused config first c.power_up.new.self c.start_up.new.self powers parts c.in-Err.fault (refuses c.in-Err.fault other)
           follows c.in-Err.ensures.causes.refused (keeps config second third follows c.in-Err.ensures.generations) c.start_up.ensures.driver.applications;
       played = (refl, refl, refl, refl);
-      given = none_since first.device.bench.arms third.device.bench.arms (follows.bench.arms ∙ powers.bench.arms);
+      arms_made = none_since first.device.bench.arms third.device.bench.arms (follows.bench.arms ∙ powers.bench.arms);
       adds = adds_life first second powers third third follows (goes_nowhere third);
       armed = omega (arith, powered, begun);
     } in
     subst (λ (v : LifeView). IsLivedThrough config first third v) (sym (c.refused-life.ensures parts)) whole
 
-pub returns-in-Err-clause-left : goal.returns-in-Err-clause-left
-returns-in-Err-clause-left g c =
+pub returns-in-Err-clause-stays_sound : goal.returns-in-Err-clause-stays_sound
+returns-in-Err-clause-stays_sound g c =
     let first = driver_of c.args.store.now in
     let second = driver_of c.power_up.new.self in
     let third = driver_of c.start_up.new.self in

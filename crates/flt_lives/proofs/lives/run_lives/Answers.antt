@@ -79,10 +79,10 @@ loop-parts-preserved g c =
       same_room = adds.room ∙ is.same_room;
       boots = omega (arith, left, boots);
       arms = omega (arith, cost, this, spent, armed, was);
-      sound = λ h s sound. (let one = is.sound h s sound in c.run_life.ensures.left.sound one.0 one.1 one.2);
+      sound = λ h s sound. (let one = is.sound h s sound in c.run_life.ensures.stays_sound.sound one.0 one.1 one.2);
       so_far = one_made c.args.lives.now c.loop-parts.parts-index c.parts-item.result c.loop-parts-test.true c.parts-item.is c.deref.result.now c.deref.ensures.value
           c.loop-parts.lived.items c.push.new.self.items c.in_ok-next.next.life c.in_ok-push.ensures.items c.args.config.now c.args.store.now c.loop-parts.store c.run_life.new.store is.so_far
-          is.room whole c.run_life.ensures.left.begun;
+          is.room whole c.run_life.ensures.stays_sound.begun;
       going = one_goes c.args.lives.now c.loop-parts.parts-index c.parts-item.result c.loop-parts-test.true c.parts-item.is c.deref.result.now c.deref.ensures.value
           c.loop-parts.lived.items c.push.new.self.items c.in_ok-next.next.life c.in_ok-push.ensures.items is.so_far.many (sym c.is_refused-ends.ensures ∙ c.if-ends.false) is.going;
     }
@@ -94,17 +94,17 @@ returns-then-ends g c =
     let adds = whole.adds in
     let made = one_made c.args.lives.now c.loop-parts.parts-index c.parts-item.result c.loop-parts-test.true c.parts-item.is c.deref.result.now c.deref.ensures.value
     c.loop-parts.lived.items c.push.new.self.items c.in_ok-next.next.life c.in_ok-push.ensures.items c.args.config.now c.args.store.now c.loop-parts.store c.run_life.new.store is.so_far
-    is.room whole c.run_life.ensures.left.begun in
+    is.room whole c.run_life.ensures.stays_sound.begun in
     record {
       lived = record {
         linked = λ medium keeps. linked_of c.args.config.now medium (driver_of c.args.store.now) (driver_of c.run_life.new.store) (lives_seen (lists c.args.lives.now) c.push.new.self.items) (made.linked medium keeps);
         played = made.played;
         ended = ended_by c.args.lives.now c.loop-parts.parts-index c.parts-item.result c.loop-parts-test.true c.parts-item.is c.deref.result.now c.deref.ensures.value
             c.loop-parts.lived.items c.push.new.self.items c.in_ok-next.next.life c.in_ok-push.ensures.items is.so_far.many (sym c.is_refused-ends.ensures ∙ c.if-ends.true) is.going;
-        given = all_given _ (driver_of c.args.store.now).device.bench.arms (driver_of c.run_life.new.store).device.bench.arms made.given;
+        arms_made = all_given _ (driver_of c.args.store.now).device.bench.arms (driver_of c.run_life.new.store).device.bench.arms made.arms_made;
       };
-      left = left_next c.args.config.now (driver_of c.args.store.now) (driver_of c.loop-parts.store) (driver_of c.run_life.new.store) c.loop-parts.parts-index (length c.args.lives.now) c.loop-parts-test.true
-          is.so_far.begun is.sound is.same_room c.run_life.ensures.left;
+      stays_sound = left_next c.args.config.now (driver_of c.args.store.now) (driver_of c.loop-parts.store) (driver_of c.run_life.new.store) c.loop-parts.parts-index (length c.args.lives.now) c.loop-parts-test.true
+          is.so_far.begun is.sound is.same_room c.run_life.ensures.stays_sound;
     }
 
 pub returns : goal.returns
@@ -117,26 +117,26 @@ returns g c =
         linked = λ medium keeps. linked_of c.args.config.now medium (driver_of c.args.store.now) (driver_of c.loop-parts.store) (lives_seen (lists c.args.lives.now) c.loop-parts.lived.items) (is.so_far.linked medium keeps);
         played = is.so_far.played;
         ended = ended_all c.args.lives.now c.loop-parts.parts-index c.loop-parts.lived.items (omega (arith, past, within)) is.so_far.many is.going;
-        given = all_given _ (driver_of c.args.store.now).device.bench.arms (driver_of c.loop-parts.store).device.bench.arms is.so_far.given;
+        arms_made = all_given _ (driver_of c.args.store.now).device.bench.arms (driver_of c.loop-parts.store).device.bench.arms is.so_far.arms_made;
       };
-      left = record {
+      stays_sound = record {
         begun = begun_within c.loop-parts.parts-index (length c.args.lives.now) (driver_of c.args.store.now).device (driver_of c.loop-parts.store).device (omega (arith, within)) is.so_far.begun;
         sound = is.sound;
         room = is.same_room;
       };
     }
 
-pub returns-in_err-lived-clause-left : goal.returns-in_err-lived-clause-left
-returns-in_err-lived-clause-left g c = record { begun = none_begun (length c.args.lives.now) (driver_of c.args.store.now).device; sound = λ h s sound. (h, s, sound); room = refl }
+pub returns-in_err-lived-clause-stays_sound : goal.returns-in_err-lived-clause-stays_sound
+returns-in_err-lived-clause-stays_sound g c = record { begun = none_begun (length c.args.lives.now) (driver_of c.args.store.now).device; sound = λ h s sound. (h, s, sound); room = refl }
 
-pub returns-in_err-next-clause-left : goal.returns-in_err-next-clause-left
-returns-in_err-next-clause-left g c =
+pub returns-in_err-next-clause-stays_sound : goal.returns-in_err-next-clause-stays_sound
+returns-in_err-next-clause-stays_sound g c =
     let is = c.loop-parts.invariant in
     left_next c.args.config.now (driver_of c.args.store.now) (driver_of c.loop-parts.store) (driver_of c.run_life.new.store) c.loop-parts.parts-index (length c.args.lives.now) c.loop-parts-test.true
-    is.so_far.begun is.sound is.same_room c.run_life.ensures.left
+    is.so_far.begun is.sound is.same_room c.run_life.ensures.stays_sound
 
-pub returns-in_err-push-clause-left : goal.returns-in_err-push-clause-left
-returns-in_err-push-clause-left g c =
+pub returns-in_err-push-clause-stays_sound : goal.returns-in_err-push-clause-stays_sound
+returns-in_err-push-clause-stays_sound g c =
     let is = c.loop-parts.invariant in
     left_next c.args.config.now (driver_of c.args.store.now) (driver_of c.loop-parts.store) (driver_of c.run_life.new.store) c.loop-parts.parts-index (length c.args.lives.now) c.loop-parts-test.true
-    is.so_far.begun is.sound is.same_room c.run_life.ensures.left
+    is.so_far.begun is.sound is.same_room c.run_life.ensures.stays_sound

@@ -86,14 +86,14 @@ loop-part-preserved g c =
             subst (λ (l : List (PartOf Step)). IsLife start l (told_in c.take_step.new.account.replies) [] c.take_step.new.account.journal.items []) (sym parts_more)
             (subst (λ (own : List Told). IsLife start (before ++ inl c.in-One.step ∷ []) own [] c.take_step.new.account.journal.items []) (sym takes.answers)
             (life_more start before told [] c.loop-part.account.journal.items c.take_step.new.account.journal.items c.in-One.step last
-            (inv.taken.played first living) (takes.step.carried first (inv.taken.living first living).stands))));
+            (inv.taken.played first living) (takes.step.calls_and_answer first (inv.taken.living first living).stands))));
         caused = λ begun caused.
             subst (λ (now : List Told). IsCaused config begun now c.take_step.new.store) (sym deeds) (takes.step.caused begun (deeds_told before told) (inv.taken.caused begun caused));
       };
       applications = λ block below. c.take_step.ensures.applications block below ∙ inv.applications block below;
-      goes_on = goes_further _ _ _ inv.goes_on c.take_step.ensures.gives.goes_on;
-      given = subst (λ arms. WereGiven arms first_arms last_arms) (sym (ap all_arms more ∙ arms_more made step))
-          (given_further (all_arms made) (arms_of step) first_arms (driver_of c.loop-part.store).device.bench.arms last_arms inv.given c.take_step.ensures.gives.given);
+      keeps_driver = goes_further _ _ _ inv.keeps_driver c.take_step.ensures.gives.keeps_driver;
+      arms_made = subst (λ arms. WereGiven arms first_arms last_arms) (sym (ap all_arms more ∙ arms_more made step))
+          (given_further (all_arms made) (arms_of step) first_arms (driver_of c.loop-part.store).device.bench.arms last_arms inv.arms_made c.take_step.ensures.gives.arms_made);
       armed = omega (arith, sum, armed, was);
     }
 
@@ -105,8 +105,8 @@ pub returns-clause-gives : goal.returns-clause-gives
 returns-clause-gives g c =
     let armed = c.loop-part.invariant.armed in
     record {
-      goes_on = c.loop-part.invariant.goes_on;
-      given = rw (take_all c.loop-part.part-index c.args.parts.now c.loop-part-test.false) at c.loop-part.invariant.given;
+      keeps_driver = c.loop-part.invariant.keeps_driver;
+      arms_made = rw (take_all c.loop-part.part-index c.args.parts.now c.loop-part-test.false) at c.loop-part.invariant.arms_made;
       armed = omega (arith, armed);
     }
 
@@ -128,8 +128,8 @@ loop-part-init g c =
         caused = λ begun caused. caused;
       };
       applications = λ block below. refl;
-      goes_on = goes_nowhere (driver_of c.args.store.now);
-      given = none_given (driver_of c.args.store.now).device.bench.arms;
+      keeps_driver = goes_nowhere (driver_of c.args.store.now);
+      arms_made = none_given (driver_of c.args.store.now).device.bench.arms;
       armed = omega arith;
     }
 

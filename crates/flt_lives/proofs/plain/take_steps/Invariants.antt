@@ -20,7 +20,7 @@ invariant-loop-part g l = record {
   many : length (told_in l.account.replies) ≡ length (own_steps (parts_of (take l.part-index l.parts)));
   taken : HasTakenSteps l.config (parts_of (take l.part-index l.parts)) l.fn.unit l.unit l.fn.store l.store l.account;
   applications : SameApplications (driver_of l.fn.store).value (driver_of l.store).value;
-  goes_on : GoesOn (driver_of l.fn.store) (driver_of l.store);
-  given : WereGiven (all_arms (actions_in (take l.part-index l.parts))) (driver_of l.fn.store).device.bench.arms (driver_of l.store).device.bench.arms;
+  keeps_driver : GoesOn (driver_of l.fn.store) (driver_of l.store);
+  arms_made : WereGiven (all_arms (actions_in (take l.part-index l.parts))) (driver_of l.fn.store).device.bench.arms (driver_of l.store).device.bench.arms;
   armed : (driver_of l.store).device.bench.armed + sum_by arm_count (actions_in (drop l.part-index l.parts)) ≤ (driver_of l.fn.store).device.bench.armed + sum_by arm_count (actions_in l.parts);
 }

@@ -42,7 +42,7 @@ returns-in-Call-clause-made g c =
     let last : Answer Reply = record { place = c.len-place.result; reply = reply_with c.call-reply.result c.call-reply.new.buffers.response.items } in
     let possible = subst (IsPossible config) c.in-Call.is c.requires.step.possible in
     let made : AnswersStep config (actions.Call c.in-Call.op) c.args.unit.now c.call-reply.new.unit c.args.store.now c.args.store.now c.args.journal.now c.write.new.journal (answers.Dem last) = record {
-      carried = λ first stands.
+      calls_and_answer = λ first stands.
           (let start = start_from config first.state in
           let size : c.len-place.result ≡ length journal = c.len-place.ensures ∙ c.args.journal.now.ok.0 ∙ sym (length-reverse c.args.journal.now.items) in
           let reply = c.call-reply.ensures.answer start _ stands in
@@ -76,7 +76,7 @@ pub returns-in-Call-clause-gives : goal.returns-in-Call-clause-gives
 returns-in-Call-clause-gives g c =
     let store = driver_of c.args.store.now in
     subst (λ (step : Action). GivesArms (arms_of step) (arm_count step) store store) (sym c.in-Call.is)
-    (record { goes_on = goes_nowhere store; given = none_given store.device.bench.arms; armed = omega arith })
+    (record { keeps_driver = goes_nowhere store; arms_made = none_given store.device.bench.arms; armed = omega arith })
 
 pub returns-in-Arm-clause-ready : goal.returns-in-Arm-clause-ready
 returns-in-Arm-clause-ready g c =
@@ -91,7 +91,7 @@ pub returns-in-Arm-clause-made : goal.returns-in-Arm-clause-made
 returns-in-Arm-clause-made g c =
     let config = c.args.config.now in
     let made : AnswersStep config (actions.Arm c.in-Arm.arm) c.args.unit.now c.args.unit.now c.args.store.now c.arm.new.self c.args.journal.now c.args.journal.now answers.Armed = record {
-      carried = λ first stands. (refl, refl);
+      calls_and_answer = λ first stands. (refl, refl);
       living = λ first told living. record {
         stands = living.stands;
         held = living.held;

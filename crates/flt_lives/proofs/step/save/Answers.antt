@@ -42,7 +42,7 @@ returns-in-Ok-clause-made g c =
     let written : reverse c.write-in-Ok.new.journal.items ≡ entry 0 (ops.Saved c.in-Ok.generation) ∷ entry 0 ops.Snapshot ∷ journal =
     c.write-in-Ok.ensures.written ∙ ap (λ before. entry 0 (ops.Saved c.in-Ok.generation) ∷ before) c.write.ensures.written in
     record {
-      carried = λ first stands. written;
+      calls_and_answer = λ first stands. written;
       living = λ first told living.
           (let saved = (c.in-Ok.ensures.answers living.held living.spare living.running).saved in
           let taken = c.take_snapshot.ensures.taken (start_from config first.state) (calls_of journal) living.stands in
@@ -64,7 +64,7 @@ returns-in-Err-clause-made g c =
     let config = c.args.config.now in
     let journal = reverse c.args.journal.now.items in
     record {
-      carried = λ first stands. c.write.ensures.written;
+      calls_and_answer = λ first stands. c.write.ensures.written;
       living = λ first told living.
           (let left = (c.in-Err.ensures.answers living.held living.spare living.running).failed in
           let taken = c.take_snapshot.ensures.taken (start_from config first.state) (calls_of journal) living.stands in
@@ -99,8 +99,8 @@ gives_none : (before after : BlocksState) → Follows before after → GivesArms
 gives_none before after follows =
     let armed = follows.bench.armed in
     record {
-      goes_on = goes_by_calls before after follows;
-      given = none_since before.device.bench.arms after.device.bench.arms follows.bench.arms;
+      keeps_driver = goes_by_calls before after follows;
+      arms_made = none_since before.device.bench.arms after.device.bench.arms follows.bench.arms;
       armed = omega (arith, armed);
     }
 

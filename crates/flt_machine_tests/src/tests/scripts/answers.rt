@@ -46,7 +46,7 @@ fn room_is_taken_for_all_lanes(rt: HostRuntime) -> Result<(), Fail> {
     Ok(())
 }
 
-/// Whether a step makes so many calls of the machine and of the queue, and has so many bytes of a response.
+/// Whether a step makes this many calls of the machine and of the queue, and has this many bytes of a response.
 fn counts(step: Step, calls: usize, jobs: usize, bytes: usize) -> bool {
     call_count(&step) == calls && queue_count(&step) == jobs && response_size(&step) == bytes
 }

@@ -1,6 +1,6 @@
 use super::*;
 
-/// Scripts with blocks of lanes, and what is told of each.
+/// Scripts with blocks of lanes, and what is reported of each.
 static CASES: [(&str, &str); 38] = [
     ("par", "script line 1 block"),
     ("par\n# x\n\n", "script line 3 block"),

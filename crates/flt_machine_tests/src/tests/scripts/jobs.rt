@@ -1,7 +1,7 @@
 use super::*;
 use arrayvec::ArrayVec;
 
-/// Scripts with jobs for application blocks, and what is told of each.
+/// Scripts with jobs for application blocks, and what is reported of each.
 static CASES: [(&str, &str); 18] = [
     (
         "post 3 01 aF\nurge 0 00\n post\t007 0a\ndrain\nget 3\nask 07",

@@ -1,6 +1,6 @@
 use super::*;
 
-/// A piece, so many times.
+/// A piece, this many times.
 fn repeated(alloc: Global, piece: &str, times: usize) -> Result<String, AllocError> {
     let mut text = String::new(alloc);
     for _ in 0..times {
@@ -19,7 +19,7 @@ fn events(alloc: Global, count: u32) -> Result<String, AllocError> {
     Ok(text)
 }
 
-/// Pieces that are repeated, as often as a script may have them, and how many bytes are told of the script.
+/// Pieces that are repeated, as often as a script may have them, and how many bytes are reported of the script.
 static AS_MANY: [(&str, usize, usize); 5] = [
     ("#", 512, 0),
     ("#\n", 524_288, 0),
@@ -28,7 +28,7 @@ static AS_MANY: [(&str, usize, usize); 5] = [
     ("drain\n", 1_024, 6_144),
 ];
 
-/// This many bytes are told of the script.
+/// This many bytes are reported of the script.
 fn is_as_long(rt: &impl Abort, alloc: Global, script: String, length: usize) -> Result<(), Fail> {
     assert!(rt;
         outcome(alloc, script.as_bytes())?.len() == length,
@@ -50,7 +50,7 @@ fn limits(rt: HostRuntime) -> Result<(), Fail> {
     is_as_long(&rt, rt.alloc(), events(rt.alloc(), 256)?, 0)
 }
 
-/// Pieces that are repeated, what stands behind them, and what is told of both.
+/// Pieces that are repeated, what follows them, and what is reported of both.
 static REPEATED: [(&str, usize, &str, &str); 25] = [
     ("#", 512, "\r\n#", ""),
     ("#", 513, "", "script line 1 long"),
@@ -109,7 +109,7 @@ static REPEATED: [(&str, usize, &str, &str); 25] = [
     ),
 ];
 
-/// A script with this behind it is told so.
+/// A script with this after it is reported so.
 fn is_told(
     rt: &impl Abort,
     alloc: Global,
@@ -125,7 +125,7 @@ fn is_told(
     Ok(())
 }
 
-/// Each piece, repeated and with what stands behind it, is told as its case says.
+/// Each piece, repeated and with what follows it, is reported as its case says.
 #[test]
 fn repeated_pieces_are_told(rt: HostRuntime) -> Result<(), Fail> {
     for case in &REPEATED {
@@ -140,7 +140,7 @@ fn repeated_pieces_are_told(rt: HostRuntime) -> Result<(), Fail> {
     Ok(())
 }
 
-/// Behind as many events as there may be.
+/// After as many events as there may be.
 static BEHIND_EVENTS: [(&str, &str); 2] = [
     ("event 256 dtc 000101 prio 25", "script line 257 many"),
     ("event 256 dtc 000101 prio 256", "script line 257 range"),

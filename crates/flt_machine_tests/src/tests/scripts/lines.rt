@@ -21,10 +21,10 @@ use std::test::Fail;
 /// The bytes of two responses, of 3 and 2 bytes.
 const RESPONSES: [u8; 5] = [0x7F, 0x0A, 0xB9, 0xFF, 0x00];
 
-/// What stands before a line.
+/// What is before a line.
 const BEFORE: &[u8] = b"x\n";
 
-/// Whether this is exactly what stands behind the bytes before it.
+/// Whether this is exactly what follows the bytes before it.
 fn stands(out: &[u8], line: &str) -> bool {
     out.strip_prefix(BEFORE) == Some(line.as_bytes())
 }
@@ -51,7 +51,7 @@ fn told(reply: KeptReply) -> KeptAnswer
     }
 }
 
-/// Replies to `cycle 3`, each with what is told of it.
+/// Replies to `cycle 3`, each with what is reported of it.
 static REPLIES: [(KeptReply, &str); 9] = [
     (KeptReply::Taken, "cycle 3 -> taken\n"),
     (
@@ -281,7 +281,7 @@ fn refused_lives(rt: HostRuntime) -> Result<(), Fail> {
     Ok(())
 }
 
-/// Faults of scripts by their line, each with what is told of it.
+/// Faults of scripts by their line, each with what is reported of it.
 static FAULTS: [(u32, LineCause, &str); 3] = [
     (0, LineCause::Large, "script line 0 large\n"),
     (12, LineCause::Form, "script line 12 form\n"),
@@ -295,7 +295,7 @@ static FAULTS: [(u32, LineCause, &str); 3] = [
     ),
 ];
 
-/// Whether this is told of a fault.
+/// Whether this is reported of a fault.
 fn is_fault(alloc: Global, line: u32, cause: LineCause, text: &str) -> Result<bool, AllocError> {
     let mut out = Vec::new(alloc);
     out.extend_from_slice(BEFORE)?;

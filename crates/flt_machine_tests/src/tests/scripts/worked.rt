@@ -1,5 +1,5 @@
-//! Worked examples of lives and of scripts, which the checker computes: of what is not so as well, where a rule that is left out would let it
-//! be so.
+//! Worked examples of lives and of scripts, which the checker computes: of what is not so as well, where a rule that is left out would
+//! let it be so.
 ghost use Rattle.flt_flash.specs.declared.arm.Arm.{Arm};
 ghost use Rattle.flt_config.specs.declared.config.Config.{Config};
 ghost use Rattle.flt_config.specs.declared.persist.Persist.{Persist};
@@ -26,7 +26,7 @@ pub fn other_jobs_do_not_count()
     ensures { OtherJobsDoNotCount }
 {}
 
-/// A read does not answer by a drain behind it.
+/// A read does not answer by a drain after it.
 pub fn reads_do_not_look_ahead()
     ensures { ReadsDoNotLookAhead }
 {}
@@ -51,17 +51,17 @@ pub fn dark_life_arms()
     ensures { DarkLifeArms }
 {}
 
-/// The generation that was acknowledged last is named with its state, also behind a dark life.
+/// The generation that was acknowledged last is named with its state, also after a dark life.
 pub fn last_is_named()
     ensures { (c : Config) (state : Persist) → LastIsNamed c state }
 {}
 
-/// A number has 1 to 10 digits, also behind a minus sign.
+/// A number has 1 to 10 digits, also after a minus sign.
 pub fn numbers_have_ten_digits()
     ensures { NumbersHaveTenDigits }
 {}
 
-/// The bytes at the bounds of what may stand in a line.
+/// The bytes at the bounds of what a line may have.
 pub fn bytes_of_a_line()
     ensures { BytesOfALine }
 {}

@@ -8,11 +8,11 @@ use Rattle.flt_pages.proofs.place.find_places.Given as goal
 abbrev pub invariant-log : goal.invariant-log
 invariant-log g l = record {
   reads : OnlyReads (g.F.Flash.state l.initial.flash) (g.F.Flash.state l.flash);
-  goes_on : GoesOn l.used l.numbers (sector_at (g.F.Flash.state l.initial.flash).image l.sector) l.page;
+  goes_on : GoesOn l.at.used l.numbers (sector_at (g.F.Flash.state l.initial.flash).image l.at.sector) l.page;
   operations : (g.F.Flash.state l.flash).operations + 2 ≤ (g.F.Flash.state l.initial.flash).operations + l.page;
   size : length l.places ≡ length l.numbers;
-  seeks : (k : ℕ) → k < length l.numbers → Seeks l.used l.numbers (sector_at (g.F.Flash.state l.initial.flash).image l.sector) (get_or l.numbers k 0) l.page (get_or l.places k None);
+  seeks : (k : ℕ) → k < length l.numbers → Seeks l.at.used l.numbers (sector_at (g.F.Flash.state l.initial.flash).image l.at.sector) (get_or l.numbers k 0) l.page (get_or l.places k None);
 }
 
 abbrev pub decreases-log : goal.decreases-log
-decreases-log g l = l.used - l.page
+decreases-log g l = l.at.used - l.page

@@ -10,55 +10,52 @@ use Rattle.flt_pages.proofs.sectors.switch_sectors.Goals as goal
 
 pub returns-in_err-begin-clause-values : goal.returns-in_err-begin-clause-values
 returns-in_err-begin-clause-values g c =
-    switch_unbegun c.args.used c.args.numbers.now (g.F.Flash.state c.args.flash.now) (g.met.F.Flash.shape c.args.flash.now) c.args.sector c.args.sequence c.requires.can.source.log.pages.one_of_two c.requires.can.least (omega arith) c.requires.can.source.log.pages.most
+    switch_unbegun c.args.at c.args.numbers.now (g.F.Flash.state c.args.flash.now) (g.met.F.Flash.shape c.args.flash.now) c.requires.can.least (omega arith) c.requires.can.source.log.most
     c.requires.can.current c.requires.can.source.log.sound c.requires.can.next (g.F.Flash.state c.begin.new.flash) c.in_err-begin.ensures.begins.torn
 
 pub copy_blocks-requires-clause-other : goal.copy_blocks-requires-clause-other
-copy_blocks-requires-clause-other g c = record {
-  one_of_two = omega arith;
-  apart = omega (arith, c.requires.can.source.log.pages.one_of_two);
-  blank = begun_blank c.args.used c.args.numbers.now (g.F.Flash.state c.args.flash.now) (g.met.F.Flash.shape c.args.flash.now) c.args.sector c.args.sequence c.requires.can.source.log.pages.one_of_two c.requires.can.least (omega arith) c.requires.can.source.log.pages.most
-      c.requires.can.current c.requires.can.source.log.sound c.requires.can.next (g.F.Flash.state c.begin.new.flash) (g.met.F.Flash.shape c.begin.new.flash) c.in_ok-begin.ensures.begins.done;
-}
+copy_blocks-requires-clause-other g c =
+    begun_blank c.args.at c.args.numbers.now (g.F.Flash.state c.args.flash.now) (g.met.F.Flash.shape c.args.flash.now) c.requires.can.least (omega arith) c.requires.can.source.log.most
+    c.requires.can.current c.requires.can.source.log.sound c.requires.can.next (g.F.Flash.state c.begin.new.flash) (g.met.F.Flash.shape c.begin.new.flash) c.in_ok-begin.ensures.begins.done
 
 pub returns-in_err-end-clause-values : goal.returns-in_err-end-clause-values
 returns-in_err-end-clause-values g c =
     let copies = c.in_err-end.ensures.copies in
-    keeps_inactive c.args.used c.args.numbers.now (g.F.Flash.state c.args.flash.now) (g.met.F.Flash.shape c.args.flash.now) c.args.sector c.args.sequence c.requires.can.source.log.pages.one_of_two c.requires.can.least (omega arith) c.requires.can.source.log.pages.most
+    keeps_inactive c.args.at c.args.numbers.now (g.F.Flash.state c.args.flash.now) (g.met.F.Flash.shape c.args.flash.now) c.requires.can.least (omega arith) c.requires.can.source.log.most
     c.requires.can.current c.requires.can.source.log.sound c.requires.can.next (g.F.Flash.state c.begin.new.flash) (g.met.F.Flash.shape c.begin.new.flash) c.in_ok-begin.ensures.begins.done
     (g.F.Flash.state c.copy_blocks.new.flash) copies.written.pages copies.written.on copies.written.gates
 
 pub activate-requires-clause-blank : goal.activate-requires-clause-blank
 activate-requires-clause-blank g c =
     let copies = c.in_ok-end.ensures.copies in
-    active_blank c.args.used c.args.numbers.now (g.F.Flash.state c.args.flash.now) (g.met.F.Flash.shape c.args.flash.now) c.args.sector c.args.sequence c.requires.can.source.log.pages.one_of_two c.requires.can.least (omega arith) c.requires.can.source.log.pages.most
+    active_blank c.args.at c.args.numbers.now (g.F.Flash.state c.args.flash.now) (g.met.F.Flash.shape c.args.flash.now) c.requires.can.least (omega arith) c.requires.can.source.log.most
     c.requires.can.current c.requires.can.source.log.sound c.requires.can.next (g.F.Flash.state c.begin.new.flash) (g.met.F.Flash.shape c.begin.new.flash) c.in_ok-begin.ensures.begins.done
     (g.F.Flash.state c.copy_blocks.new.flash) copies.written.pages copies.written.on copies.written.gates
 
 pub returns-in_err-activate-clause-values : goal.returns-in_err-activate-clause-values
 returns-in_err-activate-clause-values g c =
     let copies = c.in_ok-end.ensures.copies in
-    let source = source_stays c.args.used c.args.numbers.now (g.F.Flash.state c.args.flash.now) (g.met.F.Flash.shape c.args.flash.now) c.args.sector c.args.sequence c.requires.can.source.log.pages.one_of_two c.requires.can.least (omega arith) c.requires.can.source.log.pages.most
+    let source = source_stays c.args.at c.args.numbers.now (g.F.Flash.state c.args.flash.now) (g.met.F.Flash.shape c.args.flash.now) c.requires.can.least (omega arith) c.requires.can.source.log.most
     c.requires.can.current c.requires.can.source.log.sound c.requires.can.next (g.F.Flash.state c.begin.new.flash) (g.met.F.Flash.shape c.begin.new.flash) c.in_ok-begin.ensures.begins.done in
-    activation_left c.args.used c.args.numbers.now (g.F.Flash.state c.args.flash.now) (g.met.F.Flash.shape c.args.flash.now) c.args.sector c.args.sequence c.requires.can.source.log.pages.one_of_two c.requires.can.least (omega arith) c.requires.can.source.log.pages.most
+    activation_left c.args.at c.args.numbers.now (g.F.Flash.state c.args.flash.now) (g.met.F.Flash.shape c.args.flash.now) c.requires.can.least (omega arith) c.requires.can.source.log.most
     c.requires.can.current c.requires.can.source.log.sound c.requires.can.next (g.F.Flash.state c.begin.new.flash) (g.met.F.Flash.shape c.begin.new.flash) c.in_ok-begin.ensures.begins.done
     (g.F.Flash.state c.copy_blocks.new.flash) copies.written.pages copies.written.on copies.written.gates c.in_ok-end.end
-    (subst (λ (p : List (List ℕ)). LogHolds c.args.used c.args.numbers.now copies.written.pages c.in_ok-end.end (held_in c.args.used c.args.numbers.now p)) source copies.holds)
+    (subst (λ (p : List (List ℕ)). LogHolds c.args.at.used c.args.numbers.now copies.written.pages c.in_ok-end.end (held_in c.args.at.used c.args.numbers.now p)) source copies.holds)
     (g.F.Flash.state c.activate.new.flash) c.activate.result c.activate.ensures.appends
 
 pub returns-clause-switched : goal.returns-clause-switched
 returns-clause-switched g c =
     let copies = c.in_ok-end.ensures.copies in
-    let source = source_stays c.args.used c.args.numbers.now (g.F.Flash.state c.args.flash.now) (g.met.F.Flash.shape c.args.flash.now) c.args.sector c.args.sequence c.requires.can.source.log.pages.one_of_two c.requires.can.least (omega arith) c.requires.can.source.log.pages.most
+    let source = source_stays c.args.at c.args.numbers.now (g.F.Flash.state c.args.flash.now) (g.met.F.Flash.shape c.args.flash.now) c.requires.can.least (omega arith) c.requires.can.source.log.most
     c.requires.can.current c.requires.can.source.log.sound c.requires.can.next (g.F.Flash.state c.begin.new.flash) (g.met.F.Flash.shape c.begin.new.flash) c.in_ok-begin.ensures.begins.done in
-    let room = subst (λ (p : List (List ℕ)). c.in_ok-end.end ≤ 2 + current_pages c.args.used c.args.numbers.now p) source copies.room in
+    let room = subst (λ (p : List (List ℕ)). c.in_ok-end.end ≤ 2 + current_pages c.args.at.used c.args.numbers.now p) source copies.room in
     record {
-      stands = goes_over c.args.used c.args.numbers.now (g.F.Flash.state c.args.flash.now) (g.met.F.Flash.shape c.args.flash.now) c.args.sector c.args.sequence c.requires.can.source.log.pages.one_of_two c.requires.can.least (omega arith) c.requires.can.source.log.pages.most
+      stands = goes_over c.args.at c.args.numbers.now (g.F.Flash.state c.args.flash.now) (g.met.F.Flash.shape c.args.flash.now) c.requires.can.least (omega arith) c.requires.can.source.log.most
           c.requires.can.current c.requires.can.source.log.sound c.requires.can.next (g.F.Flash.state c.begin.new.flash) (g.met.F.Flash.shape c.begin.new.flash) c.in_ok-begin.ensures.begins.done
           (g.F.Flash.state c.copy_blocks.new.flash) copies.written.pages copies.written.on copies.written.gates c.in_ok-end.end
-          (subst (λ (p : List (List ℕ)). LogHolds c.args.used c.args.numbers.now copies.written.pages c.in_ok-end.end (held_in c.args.used c.args.numbers.now p)) source copies.holds)
+          (subst (λ (p : List (List ℕ)). LogHolds c.args.at.used c.args.numbers.now copies.written.pages c.in_ok-end.end (held_in c.args.at.used c.args.numbers.now p)) source copies.holds)
           (g.F.Flash.state c.activate.new.flash) c.in_ok-activate.ensures.appends.done;
-      table = table_over c.args.used c.args.numbers.now (g.F.Flash.state c.args.flash.now) (g.met.F.Flash.shape c.args.flash.now) c.args.sector c.args.sequence c.requires.can.source.log.pages.one_of_two c.requires.can.least (omega arith) c.requires.can.source.log.pages.most
+      table = table_over c.args.at c.args.numbers.now (g.F.Flash.state c.args.flash.now) (g.met.F.Flash.shape c.args.flash.now) c.requires.can.least (omega arith) c.requires.can.source.log.most
           c.requires.can.current c.requires.can.source.log.sound c.requires.can.next (g.F.Flash.state c.begin.new.flash) (g.met.F.Flash.shape c.begin.new.flash) c.in_ok-begin.ensures.begins.done
           (g.F.Flash.state c.copy_blocks.new.flash) copies.written.pages copies.written.on copies.written.gates c.in_ok-end.end c.copy_blocks.new.places c.in_ok-end.ensures.table
           (g.F.Flash.state c.activate.new.flash) c.in_ok-activate.ensures.appends.done;
@@ -74,12 +71,12 @@ returns-clause-switched g c =
 pub returns-clause-values : goal.returns-clause-values
 returns-clause-values g c =
     let copies = c.in_ok-end.ensures.copies in
-    let source = source_stays c.args.used c.args.numbers.now (g.F.Flash.state c.args.flash.now) (g.met.F.Flash.shape c.args.flash.now) c.args.sector c.args.sequence c.requires.can.source.log.pages.one_of_two c.requires.can.least (omega arith) c.requires.can.source.log.pages.most
+    let source = source_stays c.args.at c.args.numbers.now (g.F.Flash.state c.args.flash.now) (g.met.F.Flash.shape c.args.flash.now) c.requires.can.least (omega arith) c.requires.can.source.log.most
     c.requires.can.current c.requires.can.source.log.sound c.requires.can.next (g.F.Flash.state c.begin.new.flash) (g.met.F.Flash.shape c.begin.new.flash) c.in_ok-begin.ensures.begins.done in
-    activation_left c.args.used c.args.numbers.now (g.F.Flash.state c.args.flash.now) (g.met.F.Flash.shape c.args.flash.now) c.args.sector c.args.sequence c.requires.can.source.log.pages.one_of_two c.requires.can.least (omega arith) c.requires.can.source.log.pages.most
+    activation_left c.args.at c.args.numbers.now (g.F.Flash.state c.args.flash.now) (g.met.F.Flash.shape c.args.flash.now) c.requires.can.least (omega arith) c.requires.can.source.log.most
     c.requires.can.current c.requires.can.source.log.sound c.requires.can.next (g.F.Flash.state c.begin.new.flash) (g.met.F.Flash.shape c.begin.new.flash) c.in_ok-begin.ensures.begins.done
     (g.F.Flash.state c.copy_blocks.new.flash) copies.written.pages copies.written.on copies.written.gates c.in_ok-end.end
-    (subst (λ (p : List (List ℕ)). LogHolds c.args.used c.args.numbers.now copies.written.pages c.in_ok-end.end (held_in c.args.used c.args.numbers.now p)) source copies.holds)
+    (subst (λ (p : List (List ℕ)). LogHolds c.args.at.used c.args.numbers.now copies.written.pages c.in_ok-end.end (held_in c.args.at.used c.args.numbers.now p)) source copies.holds)
     (g.F.Flash.state c.activate.new.flash) c.activate.result c.activate.ensures.appends
 
 pub returns-clause-runs : goal.returns-clause-runs
@@ -87,20 +84,20 @@ returns-clause-runs g c = runs_on c.in_ok-begin.ensures.begins.runs (runs_on c.i
 
 pub copy_blocks-requires-clause-source : goal.copy_blocks-requires-clause-source
 copy_blocks-requires-clause-source g c =
-    let source = source_stays c.args.used c.args.numbers.now (g.F.Flash.state c.args.flash.now) (g.met.F.Flash.shape c.args.flash.now) c.args.sector c.args.sequence c.requires.can.source.log.pages.one_of_two c.requires.can.least (omega arith) c.requires.can.source.log.pages.most
+    let source = source_stays c.args.at c.args.numbers.now (g.F.Flash.state c.args.flash.now) (g.met.F.Flash.shape c.args.flash.now) c.requires.can.least (omega arith) c.requires.can.source.log.most
     c.requires.can.current c.requires.can.source.log.sound c.requires.can.next (g.F.Flash.state c.begin.new.flash) (g.met.F.Flash.shape c.begin.new.flash) c.in_ok-begin.ensures.begins.done in
     record {
       log = record {
-        pages = record { one_of_two = c.requires.can.source.log.pages.one_of_two; least = omega (arith, c.requires.can.least); most = omega (arith, c.in_ok-begin.ensures.begins.runs.pages, c.requires.can.source.log.pages.most) };
-        sound = subst (λ (p : List (List ℕ)). (log c.args.used c.args.numbers.now p).fault ≡ None) (sym source) c.requires.can.source.log.sound;
+        most = omega (arith, c.in_ok-begin.ensures.begins.runs.pages, c.requires.can.source.log.most);
+        sound = subst (λ (p : List (List ℕ)). (log c.args.at.used c.args.numbers.now p).fault ≡ None) (sym source) c.requires.can.source.log.sound;
       };
-      room = subst (λ (p : List (List ℕ)). 2 + current_pages c.args.used c.args.numbers.now p ≤ c.args.used) (sym source) c.requires.can.source.room;
+      room = subst (λ (p : List (List ℕ)). 2 + current_pages c.args.at.used c.args.numbers.now p ≤ c.args.at.used) (sym source) c.requires.can.source.room;
       table = c.requires.can.source.table;
-      tells = subst (λ (p : List (List ℕ)). TellsPlaces c.args.numbers.now c.args.places.now p c.args.used (held_in c.args.used c.args.numbers.now p)) (sym source) c.requires.can.source.tells;
+      tells = subst (λ (p : List (List ℕ)). TellsPlaces c.args.numbers.now c.args.places.now p c.args.at.used (held_in c.args.at.used c.args.numbers.now p)) (sym source) c.requires.can.source.tells;
     }
 
 pub activate-requires-clause-page : goal.activate-requires-clause-page
-activate-requires-clause-page g c = omega (arith, c.in_ok-end.ensures.copies.written.on.runs.pages, c.in_ok-begin.ensures.begins.runs.pages, c.requires.can.least, c.requires.can.source.log.pages.most)
+activate-requires-clause-page g c = omega (arith, c.in_ok-end.ensures.copies.written.on.runs.pages, c.in_ok-begin.ensures.begins.runs.pages, c.requires.can.least, c.requires.can.source.log.most)
 
 pub returns-in_err-begin-clause-runs : goal.returns-in_err-begin-clause-runs
 returns-in_err-begin-clause-runs g c = c.in_err-begin.ensures.begins.runs

@@ -8,7 +8,7 @@ use Rattle.flt_report.specs.Life.{lane_text}
 use Rattle.flt_report.proofs.Written.{goes_on, stops, ends, lanes_left, lanes_more, lanes_end}
 use Rattle.flt_report.proofs.writing.write_lanes.Goals as goal
 
--- The text of the next lane stands before those that are left.
+-- The text of the next lane comes before those that are left.
 lane_next : {A : Type 0} (old new : Option (List ℕ)) (number : ℕ) (lanes : List (Vec Step A)) (told : List LaneReplies) (index : ℕ) (lane : Vec Step A) (replies : LaneReplies) (text whole : List ℕ) → index < length lanes → index < length told
     → text ≡ lane_text (number + index) (get_or lanes index lane).items (told_in (get_or told index replies)) → IsWritten old new (lanes_left number lanes told index) whole
     → IsWritten old new (text ++ lanes_left number lanes told (index + 1)) whole

@@ -28,7 +28,7 @@ told_is : (parts : List (PartOf Step)) (replies : List LaneReplies) (own : LaneR
 told_is parts [] own some is = absurd (omega (arith, some))
 told_is parts (first ∷ rest) own some is = λ i. parts_text 1 parts (told_in (is i)) (map told_in (range_is 1 (first ∷ rest) i))
 
--- A front of the lines of the parts, behind the line that begins the life.
+-- A front of the lines of the parts, after the line that begins the life.
 front_of_life : (g : Over) (c : After-clear-in-len1-up g) (now : Option (List ℕ))
     → AppendsFront (g.K.Sink.held c.push.new.self) now (parts_text 1 (parts_of c.args.parts.now) (told_in c.own-item.result) (map told_in (take (length c.args.replies.now - 1) (drop 1 c.args.replies.now))))
     → AppendsFront (g.K.Sink.held c.args.sink.now) now (life_text c.args.number (parts_of c.args.parts.now) c.args.boot.now c.args.replies.now)

@@ -9,7 +9,7 @@ use Rattle.flt_report.proofs.writing.write_steps.Goals as goal
 pub loop-index-init : goal.loop-index-init
 loop-index-init g c = record { later = omega arith; written = starts _ _ }
 
--- The line of the next step stands before those that are left.
+-- The line of the next step comes before those that are left.
 line_next : (old new : Option (List ℕ)) (bytes : List ℕ) (steps : List Step) (answers : List KeptAnswer) (index : ℕ) (step : Step) (answer : KeptAnswer) (line whole : List ℕ) → index < length steps → index < length answers
     → line ≡ step_line (get_or steps index step) (told_of bytes (get_or answers index answer)) → IsWritten old new (steps_left bytes steps answers index) whole
     → IsWritten old new (line ++ steps_left bytes steps answers (index + 1)) whole

@@ -12,8 +12,8 @@ returns-in_err-push-clause-kept c =
     let kept = last_kept c.args.lanes.now.items (vec_len c.args.lanes.now - 1) lane c.push.new.self (omega arith) c.in-Some.ensures.value same in
     search (rules, kept)
 
-pub returns-clause-given : goal.returns-clause-given
-returns-clause-given c =
+pub returns-clause-added : goal.returns-clause-added
+returns-clause-added c =
     let lane = c.in-Some.lane.now in
     let some : 0 < vec_len c.args.lanes.now = c.in-Some.ensures.variant.0 refl in
     let more : c.push.new.self.items ≡ lane.items ++ c.args.step ∷ [] = c.in_ok-push.ensures.items in

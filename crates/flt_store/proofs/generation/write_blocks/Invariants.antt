@@ -22,6 +22,6 @@ invariant-loop-id g l =
       spends : (most : ℕ) → IsFalse before.is_stale → Spends most before now
           (written_sum l.config l.current l.next (λ id. record_pages (length (bytes_at l.blocks id))) (l.id - 3)) (written_sum l.config l.current l.next (λ id. most) (l.id - 3));
       fresh : IsFalse before.is_stale → IsFalse now.is_stale;
-      follows : Follows before now;
+      keeps_driver : Follows before now;
       table : table_of l.nvm ≡ table_of l.fn.nvm;
     }

@@ -57,7 +57,7 @@ tries : (g : _) (c : After-write g)
     → TriesCommit c.args.config.now c.args.state.now c.args.current.now (bytes_at c.args.saved.now) (bytes_at c.put_all.new.self) c.next_commit-commit.result (driver_of c.args.nvm.now) (driver_of c.write_blocks.new.nvm) (driver_of c.write.new.self)
     c.put_commit.result c.write.result
 tries g c = record {
-  follows = c.next_commit-commit.ensures;
+  is_next = c.next_commit-commit.ensures;
   most = (let most = c.requires.can.number in omega (arith, most));
   fits = c.requires.can.fits;
   told = c.put_all.ensures;
@@ -78,7 +78,7 @@ spends g c most settled =
     let limit = limit_of_used c.args.config.now c.args.current.now c.next_commit-commit.result most in
     let times = add-mul (length (used_ids c.args.config.now)) 2 most in
     spends_less most (driver_of c.args.nvm.now) (driver_of c.write.new.self) _ _ _ _ (omega (arith, pages, written)) (omega (arith, limit, times))
-    (spends_more (driver_of c.args.nvm.now) (driver_of c.write_blocks.new.nvm) (driver_of c.write.new.self) c.write_blocks.ensures.own.writes.follows c.write.ensures.calls.follows most _ _ _ _
+    (spends_more (driver_of c.args.nvm.now) (driver_of c.write_blocks.new.nvm) (driver_of c.write.new.self) c.write_blocks.ensures.own.writes.keeps_driver c.write.ensures.calls.keeps_driver most _ _ _ _
     (c.in_ok-write_blocks.ensures.own.not_stale settled) (c.write_blocks.ensures.spends most settled)
     (jobs_spend 2 _ _ most (omega (arith, size)) (driver_of c.write_blocks.new.nvm) (driver_of c.write.new.self) c.write.result jobs))
 
@@ -100,11 +100,11 @@ writes : (g : _) (c : After-write g) → StoreWrites (driver_of c.args.nvm.now) 
 writes g c =
     let put = tries g c in
     let size = size_tried put in
-    writes_on (driver_of c.args.nvm.now) (driver_of c.write_blocks.new.nvm) (driver_of c.write.new.self) c.write.result c.write_blocks.ensures.own.writes.follows
+    writes_on (driver_of c.args.nvm.now) (driver_of c.write_blocks.new.nvm) (driver_of c.write.new.self) c.write.result c.write_blocks.ensures.own.writes.keeps_driver
     (both_written (driver_of c.write_blocks.new.nvm) (driver_of c.write.new.self) c.write.result c.write.ensures.calls c.write.ensures.three _ _ _ (omega (arith, size)) put.gives)
 
 calls : (g : _) (c : After-write g) → Follows (driver_of c.args.nvm.now) (driver_of c.write.new.self)
-calls g c = more_calls (driver_of c.args.nvm.now) (driver_of c.write_blocks.new.nvm) (driver_of c.write.new.self) c.write_blocks.ensures.own.writes.follows c.write.ensures.calls.follows
+calls g c = more_calls (driver_of c.args.nvm.now) (driver_of c.write_blocks.new.nvm) (driver_of c.write.new.self) c.write_blocks.ensures.own.writes.keeps_driver c.write.ensures.calls.keeps_driver
 
 pub returns-clause-spends : goal.returns-clause-spends
 returns-clause-spends g c = spends g (goal.at.returns-clause-spends g c).After-write
@@ -146,7 +146,7 @@ returns-in_err-write_blocks-clause-writes g c =
       driver = record {
         applications = λ block below. kept_application config current next (bytes_at c.put_all.new.self) before.value after.value c.write_blocks.ensures.only block;
         not_stale = failed_ok _ _ answer made;
-        calls = own.writes.follows;
+        calls = own.writes.keeps_driver;
       };
       mark = kept_low config current next (bytes_at c.put_all.new.self) before.value after.value c.write_blocks.ensures.only 8 (omega arith);
       writes = writes_handed before after c.write_blocks.result answer _ c.in_err-write_blocks.was made own.writes;

@@ -46,7 +46,7 @@ returns-in_ok-repair_by-in-Bytes-clause-restarts g c = λ h s sound.
           (λ g holds. (c.in_ok-repair_by-in-Bytes.ensures.repairs g holds).started (mark_stays c.args.config.now before.value middle.value c.read.ensures.reads.values mark));
       failed = λ new. tt;
       unrestarted = λ flash. absurd (cc flash);
-      writes = calls_done before after _ (more_calls before middle after c.read.ensures.reads.calls.follows c.repair_by.ensures.calls);
+      writes = calls_done before after _ (more_calls before middle after c.read.ensures.reads.calls.keeps_driver c.repair_by.ensures.calls);
     }
 
 pub returns-in_err-repair_by-in-Bytes-clause-restarts : goal.returns-in_err-repair_by-in-Bytes-clause-restarts
@@ -64,9 +64,9 @@ returns-in_err-repair_by-in-Bytes-clause-restarts g c = λ h s sound.
       started = λ mark. failed_if_ok _ _ answer made;
       failed = λ new. whenever answer (read_tried read c.args.config.now h s sound after new other.within other.other other.others);
       unrestarted = λ flash.
-          unrestarted_from before middle after c.read.ensures.reads.calls.follows c.read.ensures.reads.values
+          unrestarted_from before middle after c.read.ensures.reads.calls.keeps_driver c.read.ensures.reads.values
           (unmended_at middle after _ c.in-Bytes.copy (range_read read).0 (range_read read).1 (held_at read) (repairs.unmended (handed c.repair_by.result answer _ Flash c.in_err-repair_by-in-Bytes.was made flash)));
-      writes = writes_handed before after c.repair_by.result answer _ c.in_err-repair_by-in-Bytes.was made (writes_on before middle after c.repair_by.result c.read.ensures.reads.calls.follows repairs.writes);
+      writes = writes_handed before after c.repair_by.result answer _ c.in_err-repair_by-in-Bytes.was made (writes_on before middle after c.repair_by.result c.read.ensures.reads.calls.keeps_driver repairs.writes);
     }
 
 pub returns-in-Missing-clause-restarts : goal.returns-in-Missing-clause-restarts
@@ -79,7 +79,7 @@ returns-in-Missing-clause-restarts g c = λ h s sound.
       started = λ mark. inl (started_kept c.args.config.now before.value after.value c.read.ensures.reads.values _ h (no_commit c.args.config.now before.value h s sound mark first got.1));
       failed = λ new. tt;
       unrestarted = λ flash. absurd (cc flash);
-      writes = calls_done before after _ c.read.ensures.reads.calls.follows;
+      writes = calls_done before after _ c.read.ensures.reads.calls.keeps_driver;
     }
 
 pub returns-in-Invalid-clause-restarts : goal.returns-in-Invalid-clause-restarts

@@ -24,7 +24,9 @@ pub returns-in-Request-clause-applied : goal.returns-in-Request-clause-applied
 returns-in-Request-clause-applied g c = record {
   config = c.request.ensures.config;
   base = c.request.ensures.base;
-  stands = λ life past s. subst (λ call. Stands life (call ∷ past) c.request.new.self) (sym c.in-Request.is) (c.request.ensures.stands life past s);
+  stands = λ life past s.
+      subst (λ call. Stands life (call ∷ past) c.request.new.self) (sym c.in-Request.is)
+      (subst (λ tester. Stands life (ops.Request tester c.in-Request.bytes ∷ past) c.request.new.self) c.new-in-Request.ensures (c.request.ensures.stands life past s));
   answer = search rules;
   reading = search rules;
   ignored = search rules;

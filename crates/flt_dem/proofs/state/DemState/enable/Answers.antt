@@ -14,5 +14,5 @@ returns-clause-stands c = λ life past s.
       events = stands_none life past (ops.Enable condition fulfilled) c.self.inside.events (λ marks. refl) (λ event within. refl) inside.events;
       started = inside.started;
       signals = inside.signals;
-      conditions = c.set.ensures ∙ ap (λ xs. slice_set xs condition fulfilled) inside.conditions ∙ set_conditions condition fulfilled past c.requires;
+      conditions = c.set.ensures ∙ ap (λ xs. slice_set xs condition fulfilled) inside.conditions ∙ set_conditions condition fulfilled past;
     }

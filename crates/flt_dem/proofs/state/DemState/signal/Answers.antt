@@ -13,6 +13,6 @@ returns-clause-stands c = λ life past s.
     record {
       events = stands_none life past (ops.Signal index value) c.self.inside.events (λ marks. refl) (λ event within. refl) inside.events;
       started = inside.started;
-      signals = c.set.ensures ∙ ap (λ xs. slice_set xs index value) inside.signals ∙ set_signals index value past c.requires;
+      signals = c.set.ensures ∙ ap (λ xs. slice_set xs index value) inside.signals ∙ set_signals index value past;
       conditions = inside.conditions;
     }

@@ -1,4 +1,4 @@
-//! What the definitions tell of images that were damaged, one page at a time.
+//! What the definitions say of images that were damaged, one page at a time.
 use super::worked::{Image, eight, image, piece, prepared, word};
 use flt_flash::BLANK_PAGE;
 use flt_pages::{Item, PageFault, blank_from, gates, item};
@@ -55,7 +55,7 @@ fn with_page(at: usize, bytes: [u8; 32]) -> Image {
     image
 }
 
-/// What is told of a page of sector 0 that is damaged.
+/// What is reported of a page of sector 0 that is damaged.
 const PAGE_0: PageFault = PageFault::Damaged { sector: 0, page: 0 };
 
 const PAGE_1: PageFault = PageFault::Damaged { sector: 0, page: 1 };
@@ -68,7 +68,7 @@ const PAGE_5: PageFault = PageFault::Damaged { sector: 0, page: 5 };
 
 const PAGE_7: PageFault = PageFault::Damaged { sector: 0, page: 7 };
 
-/// What is put on a page of sector 0, and what its gates tell then.
+/// What is put on a page of sector 0, and what its gates give then.
 static GATES: [(usize, Put, Result<Option<u32>, PageFault>); 13] = [
     (0, Put::Word(START), Ok(Some(1))),
     (0, Put::Blank, Ok(None)),
@@ -151,7 +151,7 @@ fn items_are_told(rt: HostRuntime) -> Result<(), Fail> {
     Ok(())
 }
 
-/// A page with bytes, the page from which on all are to be blank, and what is told.
+/// A page with bytes, the page from which on all are to be blank, and what is reported.
 static WRITTEN: [(usize, u16, Result<(), PageFault>); 4] = [
     (7, 4, Err(PAGE_7)),
     (4, 4, Err(PAGE_4)),

@@ -80,7 +80,7 @@ fn torn(pattern: Pattern, start: &[u8; 32], asked: &[u8; 32], tail: usize) -> [u
     page
 }
 
-/// The answer of a call that only reads, by whether it told what the image holds.
+/// The answer of a call that only reads, by whether it gave what the image holds.
 fn ok_if(is_told: bool) -> Result<(), FlashFailed> {
     if is_told { Ok(()) } else { Err(FlashFailed) }
 }
@@ -239,7 +239,7 @@ fn head_by(pattern: Pattern) -> Item {
     }
 }
 
-/// Whether a look at the flash tells what a call that failed by this pattern leaves.
+/// Whether a look at the flash gives what a call that failed by this pattern leaves.
 fn is_told(flash: &mut FlashMem, numbers: &Numbers, call: Call, pattern: Pattern) -> bool
     requires { (flash_state flash.old).pages ≡ 8 }
 {

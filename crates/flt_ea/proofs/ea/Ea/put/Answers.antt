@@ -18,7 +18,7 @@ returns-clause-costs g c =
     let after = g.E.Eeprom.state new.device in
     put_costs old.numbers new.numbers before after old.is_stale old.has_mounted new.is_stale new.has_mounted c.store.result
     (calls_after (state_by old.numbers old.is_stale old.has_mounted before) (state_by middle.numbers middle.is_stale middle.has_mounted between) (state_by new.numbers new.is_stale new.has_mounted after) c.store.result
-    c.in_ok-settle.ensures.calls.follows c.store.ensures.calls)
+    c.in_ok-settle.ensures.calls.keeps_driver c.store.ensures.calls)
     (length c.args.bytes.now)
     (λ fresh. subst (λ (ea : Ea g.row.E.Denot g.E.Eeprom). (IsErrOf c.store.result Flash → ⊥) → after.operations ≤ (g.E.Eeprom.state ea.device).operations + record_pages (length c.args.bytes.now))
     (c.in_ok-settle.ensures.nothing fresh).1 c.store.ensures.spends)

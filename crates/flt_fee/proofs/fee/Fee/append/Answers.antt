@@ -20,18 +20,16 @@ pub append_record-requires-clause-blank : goal.append_record-requires-clause-bla
 append_record-requires-clause-blank g c =
     let self = c.args.self.now in
     let image = (g.F.Flash.state self.flash).image in
-    let stands = mounted_stands self.is_stale self.has_mounted c.requires.not_stale self.used self.numbers image self.sector self.sequence self.end self.mounted in
-    λ k low high. blank_at_end self.used self.numbers image self.sector self.sequence self.end _ (omega (arith, self.least)) stands k low (omega (arith, c.requires.room))
+    let stands = mounted_stands self.is_stale self.has_mounted c.requires.not_stale self.at self.numbers image self.end self.mounted in
+    λ k low high. blank_at_end self.at self.numbers image self.end _ stands k low (omega (arith, c.requires.room))
 
 goes : (g : _) (c : After-append_record g)
-    → Appending c.args.self.now.used c.args.self.now.numbers (g.F.Flash.state c.args.self.now.flash) c.args.self.now.sector c.args.self.now.sequence c.args.self.now.end c.args.block c.args.bytes.now c.args.valid
+    → Appending c.args.self.now.at c.args.self.now.numbers (g.F.Flash.state c.args.self.now.flash) c.args.self.now.end c.args.block c.args.bytes.now c.args.valid
 goes g c =
     let self = c.args.self.now in
     record {
       shape = g.met.F.Flash.shape self.flash;
-      within = self.sectors;
-      begins = omega (arith, self.least);
-      stands = mounted_stands self.is_stale self.has_mounted c.requires.not_stale self.used self.numbers (g.F.Flash.state self.flash).image self.sector self.sequence self.end self.mounted;
+      stands = mounted_stands self.is_stale self.has_mounted c.requires.not_stale self.at self.numbers (g.F.Flash.state self.flash).image self.end self.mounted;
       proper = (omega arith, omega arith, omega arith, c.requires.can.kind);
       among = is_among self.numbers c.args.block c.requires.can.number;
       room = c.requires.room;
@@ -58,7 +56,7 @@ invariant_of-self-2 g c =
     let here = goes g (goal.at.invariant_of-self-2 g c).After-append_record in
     let records = c.in_ok-append_record.ensures.records in
     let after = (g.F.Flash.state c.append_record.new.flash).image in
-    let value : ℕ → Content = given c.args.block (record_content c.args.valid c.args.bytes.now) (block_value self.used self.numbers (g.F.Flash.state self.flash).image) in
+    let value : ℕ → Content = given c.args.block (record_content c.args.valid c.args.bytes.now) (block_value self.at.used self.numbers (g.F.Flash.state self.flash).image) in
     let last : self.end + (2 + byte_pages (length c.args.bytes.now)) ≡ self.end + 2 + c.byte_pages.result = omega (arith, c.byte_pages.ensures) in
     let same = with_items_is self.places c.note.new.places (omega (arith, c.note.ensures.size, ap length c.deref_mut.ensures.value, self.places.ok.0)) in
     let place : RecordPlace = record { page = self.end; length = length c.args.bytes.now; valid = c.args.valid } in
@@ -67,13 +65,12 @@ invariant_of-self-2 g c =
     record {
       within = omega (arith, self.within, records.on.runs.pages);
       least = self.least;
-      sectors = self.sectors;
       distinct = self.distinct;
       sized = ap length same ∙ c.note.ensures.size ∙ ap length c.deref_mut.ensures.value ∙ self.sized;
-      table = λ fresh. subst (λ (places : List (Option RecordPlace)). TellsPlaces self.numbers places (sector_at after self.sector) (self.end + 2 + c.byte_pages.result) (block_value self.used self.numbers after)) (sym same)
+      table = λ fresh. subst (λ (places : List (Option RecordPlace)). TellsPlaces self.numbers places (sector_at after self.at.sector) (self.end + 2 + c.byte_pages.result) (block_value self.at.used self.numbers after)) (sym same)
           (tells_appended here records self.places.items c.note.new.places (self.table c.requires.not_stale) place refl noted (self.end + 2 + c.byte_pages.result) last);
-      mounted = stands_mounted self.has_mounted (self.mounted.mounted c.requires.not_stale) self.used self.numbers after self.sector self.sequence (self.end + 2 + c.byte_pages.result) value
-          (subst (λ n. StandsAt self.used self.numbers after self.sector self.sequence n value) last (done_standing here records refl));
+      mounted = stands_mounted self.has_mounted (self.mounted.mounted c.requires.not_stale) self.at self.numbers after (self.end + 2 + c.byte_pages.result) value
+          (subst (λ n. StandsAt self.at.used self.numbers after self.at.sector self.at.sequence n value) last (done_standing here records refl));
     }
 
 pub returns-clause-changes : goal.returns-clause-changes
@@ -86,22 +83,21 @@ invariant_of-self g c =
     record {
       within = omega (arith, self.within, c.append_record.ensures.records.on.runs.pages);
       least = self.least;
-      sectors = self.sectors;
       distinct = self.distinct;
       sized = self.sized;
       table = λ fresh. absurd (cc fresh);
-      mounted = stale_mounted self.has_mounted self.used self.numbers _ self.sector self.sequence self.end (λ yes. sound);
+      mounted = stale_mounted self.has_mounted self.at self.numbers _ self.end (λ yes. sound);
     }
 
 pub returns-in_err-append_record-clause-even : goal.returns-in_err-append_record-clause-even
 returns-in_err-append_record-clause-even g c =
     let records = c.in_err-append_record.ensures.records in
-    even_same c.args.self.now.used (g.F.Flash.state c.args.self.now.flash) (g.F.Flash.state c.append_record.new.flash) (current_stays (goes g (goal.at.returns-in_err-append_record-clause-even g c).After-append_record) records) records.on.wear
+    even_same c.args.self.now.at.used (g.F.Flash.state c.args.self.now.flash) (g.F.Flash.state c.append_record.new.flash) (current_stays (goes g (goal.at.returns-in_err-append_record-clause-even g c).After-append_record) records) records.on.wear
 
 pub returns-clause-even : goal.returns-clause-even
 returns-clause-even g c =
     let records = c.in_ok-append_record.ensures.records in
-    even_same c.args.self.now.used (g.F.Flash.state c.args.self.now.flash) (g.F.Flash.state c.append_record.new.flash) (current_stays (goes g (goal.at.returns-clause-even g c).After-append_record) records) records.on.wear
+    even_same c.args.self.now.at.used (g.F.Flash.state c.args.self.now.flash) (g.F.Flash.state c.append_record.new.flash) (current_stays (goes g (goal.at.returns-clause-even g c).After-append_record) records) records.on.wear
 
 pub returns-clause-part : goal.returns-clause-part
 returns-clause-part g c = record {

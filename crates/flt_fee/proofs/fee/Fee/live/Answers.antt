@@ -9,10 +9,10 @@ pub live_pages-requires-clause-most : goal.live_pages-requires-clause-most
 live_pages-requires-clause-most g c =
     let self = c.args.self.now in
     subst (λ (places : List (Option RecordPlace)). sum_by pages_found places < 65536) (sym c.deref.ensures.value)
-    (live_fits self.is_stale self.has_mounted c.requires self.used self.numbers (g.F.Flash.state self.flash) (g.met.F.Flash.shape self.flash) self.sector self.sequence self.end self.least self.within self.sectors self.distinct self.mounted self.places.items self.sized (self.table c.requires))
+    (live_fits self.is_stale self.has_mounted c.requires self.at self.numbers (g.F.Flash.state self.flash) (g.met.F.Flash.shape self.flash) self.end self.least self.within self.distinct self.mounted self.places.items self.sized (self.table c.requires))
 
 pub returns : goal.returns
 returns g c =
     let self = c.args.self.now in
     c.live_pages.ensures ∙ ap (sum_by pages_found) c.deref.ensures.value
-    ∙ live_of_table self.is_stale self.has_mounted c.requires self.used self.numbers (g.F.Flash.state self.flash) (g.met.F.Flash.shape self.flash) self.sector self.sequence self.end self.least self.within self.sectors self.distinct self.mounted self.places.items self.sized (self.table c.requires)
+    ∙ live_of_table self.is_stale self.has_mounted c.requires self.at self.numbers (g.F.Flash.state self.flash) (g.met.F.Flash.shape self.flash) self.end self.least self.within self.distinct self.mounted self.places.items self.sized (self.table c.requires)

@@ -8,6 +8,6 @@ pub returns : goal.returns
 returns g c = record {
   bench = c.arm.ensures.bench;
   rest = ap
-      (λ (flash : FlashState). recounted c.args.self.now.tally.calls c.args.self.now.tally.last_failed (state_by c.args.self.now.used c.args.self.now.numbers c.args.self.now.is_stale c.args.self.now.has_mounted flash))
+      (λ (flash : FlashState). recounted c.args.self.now.tally.calls c.args.self.now.tally.last_failed (state_by c.args.self.now.at.used c.args.self.now.numbers c.args.self.now.is_stale c.args.self.now.has_mounted flash))
       c.arm.ensures.rest;
 }

@@ -117,11 +117,11 @@ returns-clause-lived g c =
           (played_by config parts c.args.generation state c.twin-start.result account.journal.items own c.twin-start.ensures (taken.played first begun));
       kept = alone (λ (view : LifeView). KeepsApplications (moment_of before) after view) account.journal.items none none_told is
           record { held = c.take_steps.ensures.applications; got = alone_got before.value [] parts own [] c.requires.can };
-      given = c.take_steps.ensures.gives.given;
+      arms_made = c.take_steps.ensures.gives.arms_made;
     }
 
 pub returns-clause-stays : goal.returns-clause-stays
 returns-clause-stays g c =
     let same = arms_are (parts_of c.args.parts.now) in
     let armed = c.take_steps.ensures.gives.armed in
-    record { alive = c.take_steps.ensures.ready.alive; goes_on = c.take_steps.ensures.gives.goes_on; armed = omega (arith, same, armed) }
+    record { alive = c.take_steps.ensures.ready.alive; keeps_driver = c.take_steps.ensures.gives.keeps_driver; armed = omega (arith, same, armed) }

@@ -110,5 +110,5 @@ returns-clause-lived g c =
       played = subst (λ (view : LifeView). IsPlayed config view) is
           (subst (λ (s : _). IsLife (start_from config s) parts own lanes (reverse (reverse journal)) (reverse (reverse queue))) (sym c.twin-start.ensures) turned);
       kept = subst (λ (view : LifeView). KeepsApplications before after view) is (record { held = holds.held; got = holds.got });
-      given = c.run_parts.ensures.lived.given;
+      arms_made = c.run_parts.ensures.lived.arms_made;
     }

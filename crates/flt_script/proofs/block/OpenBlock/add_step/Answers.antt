@@ -9,6 +9,6 @@ invariant_of-self-2 c =
     let lanes = steps_of_lanes block.lanes.items in
     let more = steps_of_lanes c.add_lane_step.new.lanes.items in
     record {
-      told = rw (c.is_store_step-is_store_step.ensures, block.told) (sym (put_used c.args.step lanes more c.in_ok-add_lane_step.ensures.given));
-      told_earlier = block.told_earlier ∙ sym (put_earlier c.args.step lanes more c.in_ok-add_lane_step.ensures.given);
+      told = rw (c.is_store_step-is_store_step.ensures, block.told) (sym (put_used c.args.step lanes more c.in_ok-add_lane_step.ensures.added));
+      told_earlier = block.told_earlier ∙ sym (put_earlier c.args.step lanes more c.in_ok-add_lane_step.ensures.added);
     }

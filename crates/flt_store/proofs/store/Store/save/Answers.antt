@@ -130,7 +130,7 @@ returns-clause-changes g c = λ h s running.
           (pages_of_later config (commit_of c.args.self.now) (block_bytes h.state) (block_bytes c.args.state.now) (λ none. some (number ∙ none)))
           ((spends g (goal.at.returns-clause-changes g c).After-save_next h s running yes fresh).at_the_end fresh unfailed none));
       at_most = λ yes fresh unfailed.
-          (spends g (goal.at.returns-clause-changes g c).After-save_next h s running yes fresh).at_most (switch_within config running.served.given before.room running.served.room) fresh unfailed;
+          (spends g (goal.at.returns-clause-changes g c).After-save_next h s running yes fresh).at_most (switch_within config running.served.valid_config before.room running.served.room) fresh unfailed;
     }
 
 pub returns-clause-driver : goal.returns-clause-driver

@@ -53,7 +53,7 @@ returns-clause-behind g c = λ h ready.
       saved = (
         omega (arith, is, was),
         record {
-          served = served_on config before after c.write_generation.ensures.writes.writes.follows ready.served;
+          served = served_on config before after c.write_generation.ensures.writes.writes.keeps_driver ready.served;
           mark = now.mark;
           sound = sound_started config after.value (Some next) new now;
           settled = λ yes. now;
@@ -84,7 +84,7 @@ returns-in_err-commit-clause-behind g c = λ h ready.
     record {
       saved = failed_if_ok _ _ answer made;
       failed = whenever answer (subst (λ (n : ℕ). OldOrNew config after.value h h (numbered (n + 1) c.args.state.now)) (sym was) left);
-      flash = λ told. resolved config ready.served.given before after _ c.in_err-commit.ensures.writes.writes c.args.self.now.numbers ready.served.room ready.served.mounted left.sound.holds.excess (told_by _ answer Flash made told);
+      flash = λ told. resolved config ready.served.valid_config before after _ c.in_err-commit.ensures.writes.writes c.args.self.now.numbers ready.served.room ready.served.mounted left.sound.holds.excess (told_by _ answer Flash made told);
       spent = λ told. absurd (told_by _ answer Spent made told);
       last = λ last. absurd (c.if-number_in.false (c.number_in.ensures ∙ sym was ∙ last));
       places = λ knows. failed_ok _ _ answer made;

@@ -58,7 +58,7 @@ returns-clause-finds g c = λ h s running.
     let served = served_on c.args.config.now before after (more_calls before middle after c.restart.ensures.calls later) running.served in
     let kept = started_kept c.args.config.now middle.value after.value c.read_blocks-self.ensures.reads.values c.in_ok-commit.commit in
     let known = λ (h : Generation) (started : IsStarted c.args.config.now middle.value c.in_ok-commit.commit h).
-    learned_may c.args.config.now running.served.given middle after h (bytes_at c.read_blocks-self.result) c.in_ok-commit.commit started.names c.read_blocks-self.ensures.learned in
+    learned_may c.args.config.now running.served.valid_config middle after h (bytes_at c.read_blocks-self.result) c.in_ok-commit.commit started.names c.read_blocks-self.ensures.learned in
     record {
       found =
           ⊎_elim {A = IsStarted c.args.config.now middle.value c.in_ok-commit.commit h}
@@ -68,7 +68,7 @@ returns-clause-finds g c = λ h s running.
             ready = record { served = served; started = kept h by_held; known = known h by_held };
             learns = λ undisturbed. (let never = unfailed before after c.args.self.now.is_settled c.if-self.false undisturbed in record {
               commit = λ commit has. ⊎_elim (λ is. is) (λ rose. absurd (never (failed_on before middle after later rose))) (c.in_ok-commit.ensures.found.first commit has);
-              known = learned_all c.args.config.now running.served.given middle after h (bytes_at c.read_blocks-self.result) (λ rose. never (failed_later before middle after c.restart.ensures.calls rose))
+              known = learned_all c.args.config.now running.served.valid_config middle after h (bytes_at c.read_blocks-self.result) (λ rose. never (failed_later before middle after c.restart.ensures.calls rose))
                   c.in_ok-commit.commit by_held.names c.read_blocks-self.ensures.learned;
             });
           })
@@ -94,7 +94,7 @@ returns-in_err-commit-clause-finds g c = λ h s running.
     let made = c.from_residual.ensures.1 in
     let restarts = c.in_err-commit.ensures.restarts h s running.sound in
     let left = restarts.failed h in
-    let fault = λ (told : IsErrOf answer Flash). was_flash c.args.config.now running.served.given before after _ restarts.writes c.args.self.now.numbers running.served.room running.served.mounted
+    let fault = λ (told : IsErrOf answer Flash). was_flash c.args.config.now running.served.valid_config before after _ restarts.writes c.args.self.now.numbers running.served.room running.served.mounted
     left.sound.holds.excess (told_by _ answer Flash made told) in
     record {
       found = failed_ok _ _ answer made;

@@ -60,7 +60,7 @@ returns-clause-started g c =
       judged = subst (λ (h : Generation). IsJudged c.args.config.now first third (Ok h)) same (judged g (goal.at.returns-clause-started g c).After-begin_by);
       usable = not_spent first second c.restore.ensures.reads.calls c.in_ok-found.ensures.restored.usable;
       running = record {
-        served = served_on c.args.config.now first third follows (record { given = c.begin_by.ensures.valid; room = c.requires.mounted.room; mounted = c.requires.mounted.mounted });
+        served = served_on c.args.config.now first third follows (record { valid_config = c.begin_by.ensures.valid; room = c.requires.mounted.room; mounted = c.requires.mounted.mounted });
         mark = now.mark;
         sound = sound_started c.args.config.now third.value c.in_ok-commit.commit (numbered number c.restore.new.out) now;
         settled = λ yes. now;

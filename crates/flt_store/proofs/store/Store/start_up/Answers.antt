@@ -20,14 +20,14 @@ refused : (g : _) (c : After-start_mounted g) → IfErr c.start_mounted.result (
 refused g c =
     let mounted = c.in_ok-start.ensures.mounted in
     err_told c.start_mounted.result
-    (λ fault refused. refused_through c.args.config.now c.args.self.now _ c.start_mounted.new.self c.start.ensures.mounted.calls.follows c.start.ensures.mounted.values mounted.calls.refuses_damage
+    (λ fault refused. refused_through c.args.config.now c.args.self.now _ c.start_mounted.new.self c.start.ensures.mounted.calls.keeps_driver c.start.ensures.mounted.values mounted.calls.refuses_damage
     (g.met.B.Blocks.settled_has_mounted c.start.new.self.blocks mounted.stale) fault refused)
     c.start_mounted.ensures.causes.refused
 
 pub returns-clause-started : goal.returns-clause-started
 returns-clause-started g c =
     ok_map c.start_mounted.result
-    (λ number starts. starts_through c.args.config.now c.args.self.now _ c.start_mounted.new.self c.start.ensures.mounted.calls.follows c.start.ensures.mounted.values c.in_ok-start.ensures.mounted.calls.refuses_damage number
+    (λ number starts. starts_through c.args.config.now c.args.self.now _ c.start_mounted.new.self c.start.ensures.mounted.calls.keeps_driver c.start.ensures.mounted.values c.in_ok-start.ensures.mounted.calls.refuses_damage number
     c.start_mounted.new.out starts)
     c.start_mounted.ensures.started
 
@@ -40,10 +40,10 @@ returns-clause-causes g c =
     let causes = c.start_mounted.ensures.causes in
     record {
       refused = refused g (goal.at.returns-clause-causes g c).After-start_mounted;
-      dark = λ flash. inr (unready_from first second third c.start.ensures.mounted.calls.follows c.start.ensures.mounted.values c.args.config.now (causes.dark flash));
+      dark = λ flash. inr (unready_from first second third c.start.ensures.mounted.calls.keeps_driver c.start.ensures.mounted.values c.args.config.now (causes.dark flash));
       unwritten = err_told c.start_mounted.result (λ fault same of_blocks. (second, mounted.tries, same of_blocks)) causes.unwritten;
       early = λ told was. (second, mounted.tries, causes.early told (c.start.ensures.mounted.spent ∙ was));
-      spent = λ told. out_of_numbers_from c.args.config.now first second third c.start.ensures.mounted.calls.follows c.start.ensures.mounted.values c.start.ensures.mounted.spent (causes.spent told);
+      spent = λ told. out_of_numbers_from c.args.config.now first second third c.start.ensures.mounted.calls.keeps_driver c.start.ensures.mounted.values c.start.ensures.mounted.spent (causes.spent told);
     }
 
 pub returns-in_err-start-clause-causes : goal.returns-in_err-start-clause-causes
@@ -73,7 +73,7 @@ pub returns-clause-closed : goal.returns-clause-closed
 returns-clause-closed g c =
     err_told c.start_mounted.result
     (closed_by c.args.config.now c.args.self.now c.start_mounted.new.self (g.met.B.Blocks.mounted_is_sound c.start_mounted.new.self.nvm.blocks)
-    (more_calls _ _ _ c.start.ensures.mounted.calls.follows c.start_mounted.ensures.driver.calls))
+    (more_calls _ _ _ c.start.ensures.mounted.calls.keeps_driver c.start_mounted.ensures.driver.calls))
     (refused g (goal.at.returns-clause-closed g c).After-start_mounted)
 
 pub returns-clause-settles : goal.returns-clause-settles
@@ -89,12 +89,12 @@ pub returns-clause-driver : goal.returns-clause-driver
 returns-clause-driver g c = record {
   applications = λ block below. c.start_mounted.ensures.driver.applications block below ∙ c.start.ensures.mounted.values (application_number block);
   not_stale = c.start_mounted.ensures.driver.not_stale;
-  calls = more_calls _ _ _ c.start.ensures.mounted.calls.follows c.start_mounted.ensures.driver.calls;
+  calls = more_calls _ _ _ c.start.ensures.mounted.calls.keeps_driver c.start_mounted.ensures.driver.calls;
 }
 
 pub returns-in_err-start-clause-driver : goal.returns-in_err-start-clause-driver
 returns-in_err-start-clause-driver g c = record {
   applications = λ block below. c.start.ensures.mounted.values (application_number block);
   not_stale = failed_ok _ _ c.from_residual.result c.from_residual.ensures.1;
-  calls = c.start.ensures.mounted.calls.follows;
+  calls = c.start.ensures.mounted.calls.keeps_driver;
 }

@@ -3,7 +3,8 @@ use Rattle.flt_store.proofs.Running.{ok_map}
 use Rattle.flt_store.proofs.store.applications.read_application.Goals as goal
 
 pub read-requires : goal.read-requires
-read-requires g c = application_index _ c.requires.table c.args.block c.requires.block
+read-requires g c = application_index _ c.requires.table _ c.get.ensures.below
 
 pub returns-clause-got : goal.returns-clause-got
-returns-clause-got g c = ok_map c.read.result (λ got fact. application_alone _ c.requires.table c.args.block c.requires.block _ _ fact) c.read.ensures.got
+returns-clause-got g c =
+    rw (← c.get.ensures.number) (ok_map c.read.result (λ got fact. application_alone _ c.requires.table _ c.get.ensures.below _ _ fact) c.read.ensures.got)

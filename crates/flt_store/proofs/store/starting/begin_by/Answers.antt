@@ -16,11 +16,11 @@ use Rattle.flt_store.proofs.store.starting.begin_by.Goals.{After-write_mark, Aft
 use Rattle.flt_store.proofs.store.starting.begin_by.Goals as goal
 
 tries : (g : _) (c : After-write_mark g) → TriesMark c.args.config.now (driver_of c.args.nvm.now) (driver_of c.write_mark.new.nvm)
-tries g c = record { tried = (c.write_mark.ensures.mark c.args.config.now c.mark_of.ensures.value).tried; others = c.write_mark.ensures.others; follows = c.write_mark.ensures.writes.follows }
+tries g c = record { tried = (c.write_mark.ensures.mark c.args.config.now c.mark_of.ensures.value).tried; others = c.write_mark.ensures.others; keeps_driver = c.write_mark.ensures.writes.keeps_driver }
 
 begun : (g : _) (c : After-repair g) → Begun c.args.config.now c.args.nvm.now c.write_mark.new.nvm c.repair.new.self c.in-Some.found c.repair.result
 begun g c = record {
-  tries = record { tried = (c.write_mark.ensures.mark c.args.config.now c.mark_of.ensures.value).tried; others = c.write_mark.ensures.others; follows = c.write_mark.ensures.writes.follows };
+  tries = record { tried = (c.write_mark.ensures.mark c.args.config.now c.mark_of.ensures.value).tried; others = c.write_mark.ensures.others; keeps_driver = c.write_mark.ensures.writes.keeps_driver };
   is = rw c.in-Some.is at c.requires.read.found;
   repairs = rw c.deref.ensures.0 at c.repair.ensures;
 }
@@ -40,7 +40,7 @@ repair-requires g c =
     }
 
 calls : (g : _) (c : After-repair g) → Follows (driver_of c.args.nvm.now) (driver_of c.repair.new.self)
-calls g c = more_calls (driver_of c.args.nvm.now) (driver_of c.write_mark.new.nvm) (driver_of c.repair.new.self) c.write_mark.ensures.writes.follows c.repair.ensures.calls.follows
+calls g c = more_calls (driver_of c.args.nvm.now) (driver_of c.write_mark.new.nvm) (driver_of c.repair.new.self) c.write_mark.ensures.writes.keeps_driver c.repair.ensures.calls.keeps_driver
 
 pub returns-in_ok-repair-in-Some-clause-begins : goal.returns-in_ok-repair-in-Some-clause-begins
 returns-in_ok-repair-in-Some-clause-begins g c = λ h begins.
@@ -102,14 +102,14 @@ pub returns-in_err-write_mark-clause-driver : goal.returns-in_err-write_mark-cla
 returns-in_err-write_mark-clause-driver g c = record {
   applications = applications_marked (tries g (goal.at.returns-in_err-write_mark-clause-driver g c).After-write_mark);
   not_stale = failed_ok _ _ c.from_residual.result c.from_residual.ensures.1;
-  calls = c.write_mark.ensures.writes.follows;
+  calls = c.write_mark.ensures.writes.keeps_driver;
 }
 
 pub returns-in-None-clause-driver : goal.returns-in-None-clause-driver
 returns-in-None-clause-driver g c = record {
   applications = applications_marked (tries g (goal.at.returns-in-None-clause-driver g c).After-write_mark);
   not_stale = c.in_ok-write_mark.ensures.not_stale;
-  calls = c.write_mark.ensures.writes.follows;
+  calls = c.write_mark.ensures.writes.keeps_driver;
 }
 
 pub returns-in_err-repair-in-Some-clause-driver : goal.returns-in_err-repair-in-Some-clause-driver

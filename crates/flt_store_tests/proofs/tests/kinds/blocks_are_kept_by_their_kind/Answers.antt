@@ -15,5 +15,5 @@ write-requires-clause-number g c = subst (λ (ns : List ℕ). Contains ns 17) (s
 pub make-nvm-requires : goal.make-nvm-requires
 unfolding numbers
 make-nvm-requires g c =
-    subst (λ (ns : List ℕ). IsTrue (serves ns c.in_ok-from_array.field-0.items)) (sym (c.write.ensures.calls.follows.numbers ∙ c.in_ok-driver.ensures.0))
+    subst (λ (ns : List ℕ). IsTrue (serves ns c.in_ok-from_array.field-0.items)) (sym (c.write.ensures.calls.keeps_driver.numbers ∙ c.in_ok-driver.ensures.0))
     (subst (λ (table : List BlockCfg). IsTrue (serves numbers table)) (sym c.in_ok-from_array.ensures.items) refl)

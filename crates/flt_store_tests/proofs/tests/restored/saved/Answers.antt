@@ -24,18 +24,18 @@ write-requires-clause-number c = subst (λ (ns : List ℕ). Contains ns 8) (sym 
 
 pub write-requires-2-clause-number : goal.write-requires-2-clause-number
 write-requires-2-clause-number c =
-    let first = c.write.ensures.calls.follows.numbers ∙ c.in_ok-driver.ensures.0 in
+    let first = c.write.ensures.calls.keeps_driver.numbers ∙ c.in_ok-driver.ensures.0 in
     subst (λ (ns : List ℕ). Contains ns 17) (sym first) seventeen
 
 pub write-requires-3-clause-number : goal.write-requires-3-clause-number
 write-requires-3-clause-number c =
-    let first = c.write.ensures.calls.follows.numbers ∙ c.in_ok-driver.ensures.0 in
-    let second = c.write-2.ensures.calls.follows.numbers ∙ first in
+    let first = c.write.ensures.calls.keeps_driver.numbers ∙ c.in_ok-driver.ensures.0 in
+    let second = c.write-2.ensures.calls.keeps_driver.numbers ∙ first in
     subst (λ (ns : List ℕ). Contains ns 24) (sym second) twenty_four
 
 pub write-requires-4-clause-number : goal.write-requires-4-clause-number
 write-requires-4-clause-number c =
-    let first = c.write.ensures.calls.follows.numbers ∙ c.in_ok-driver.ensures.0 in
-    let second = c.write-2.ensures.calls.follows.numbers ∙ first in
-    let third = c.write-3.ensures.calls.follows.numbers ∙ second in
+    let first = c.write.ensures.calls.keeps_driver.numbers ∙ c.in_ok-driver.ensures.0 in
+    let second = c.write-2.ensures.calls.keeps_driver.numbers ∙ first in
+    let third = c.write-3.ensures.calls.keeps_driver.numbers ∙ second in
     subst (λ (ns : List ℕ). Contains ns 65) (sym third) sixty_five

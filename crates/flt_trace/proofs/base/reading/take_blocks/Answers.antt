@@ -58,7 +58,7 @@ returns-then-not-get_block c =
     let at = text_at config p (texts_seen texts) place id [] (omega (arith, among, length-map texts (λ (t : Bor (List ℕ)). t.now))) (omega (arith, c.loop-id-test.true)) used (c.loop-id.invariant.texts p is) in
     let same : c.in-Some.bytes.items ≡ block_bytes p id = if_some ⊥ (λ read. read.items ≡ block_bytes p id) c.in_ok-bytes.field-0 c.in-Some.bytes c.in-Some.is (c.in_ok-bytes.ensures (block_bytes p id) (is.bytes id used) (seen_at texts place none among ∙ at.0)) in
     let refused = was_refused _ c.get_block.result c.loop-id.state c.get_block.new.into c.get_block.ensures.taken c.if-not-get_block.true in
-    never_refused config p (sizes_of config c.mark_of.ensures.given) is.fits (id - 3) id (omega (arith, c.loop-id.auto.id)) (omega (arith, c.loop-id-test.true)) c.loop-id.state used
+    never_refused config p (sizes_of config c.mark_of.ensures.valid_config) is.fits (id - 3) id (omega (arith, c.loop-id.auto.id)) (omega (arith, c.loop-id-test.true)) c.loop-id.state used
     (c.loop-id.invariant.taken p is)
     (ap (λ (bytes : List ℕ). taken config (part_of_block id) bytes c.loop-id.state) (sym same ∙ sym c.deref.ensures.value) ∙ refused)
 
@@ -102,4 +102,4 @@ returns c =
     λ p is.
     let config = c.args.config.now in
     let end : c.loop-id.id - 3 ≡ parts = omega (arith, c.loop-id.auto.id-end, c.loop-id-test.false) in
-    all_taken config p (sizes_of config c.mark_of.ensures.given) is.fits c.loop-id.state (subst (λ (n : ℕ). so_far config p n ≡ Ok c.loop-id.state) end (c.loop-id.invariant.taken p is))
+    all_taken config p (sizes_of config c.mark_of.ensures.valid_config) is.fits c.loop-id.state (subst (λ (n : ℕ). so_far config p n ≡ Ok c.loop-id.state) end (c.loop-id.invariant.taken p is))

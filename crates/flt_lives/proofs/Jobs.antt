@@ -19,14 +19,14 @@ use Rattle.flt_life_model.specs.SoFar.{IsCaused}
 use Rattle.flt_life_model.specs.declared.answer.StepAnswer.TheVariants as answers
 use Rattle.flt_life_model.proofs.Causing.{caused_job, caused_same}
 use Rattle.flt_life_model.proofs.HeldBlocks.{hand_taken, held_beside, held_done}
-use Rattle.flt_live.specs.Draining.{CarriesJobs, TakenJob, Drains, HasDrained, IsDraining, IsJobTaken, behind_jobs}
+use Rattle.flt_lives.specs.Draining.{CarriesJobs, TakenJob, Drains, HasDrained, IsDraining, IsJobTaken, behind_jobs}
 
 -- What a take handed out was the next job.
 pub job_out : (next : Option Job) (job : Job) → replies.Job job ≡ handed_out next → next ≡ Some job
 job_out None job is = absurd (cc is)
 job_out (Some other) job is = ap Some (sym (cc is))
 
--- What a take that handed out no job was told.
+-- What a take that handed out no job was answered.
 pub none_out : (next : Option Job) (reply : QueueReply) → reply ≡ handed_out next → ((job : Job) → reply ≡ replies.Job job → ⊥) → next ≡ None
 none_out None reply is other = refl
 none_out (Some job) reply is other = absurd (other job is)
@@ -39,20 +39,20 @@ module _ {B : Type 0} {b : Ghosts B} (c : Config) where
     caused = λ begun told some more less caused. caused_same c store begun told some more less caused;
   }
 
-  -- Behind a take that found no job.
+  -- After a take that found no job.
   pub carries_take : (before : History) (store : Store B b) → CarriesJobs c before (ops.Take ∷ before) 0 0 store store
   carries_take before store = record {
     held = λ first jobs deeds held. subst (λ n. AreHeld first (ops.Take ∷ before) n deeds (driver_of store).value) (omega arith) (held_beside first jobs deeds (driver_of store).value ops.Take before refl held);
     caused = λ begun told some more less caused. caused_same c store begun told some more less caused;
   }
 
-  -- Behind a job that was taken, written or not, and noted.
+  -- After a job that was taken, written or not, and noted.
   pub carries_job : (before : History) (job : Job) (written : Bool) (store now : Store B b) → job_behind before ≡ Some job → WritesJob c job written store now
       → CarriesJobs c before (ops.Done job.block written ∷ ops.Take ∷ before) 1 (one_if (not written)) store now
   carries_job before job written store now next put = record {
     held = λ first jobs deeds held. held_done first jobs deeds (driver_of store).value (driver_of now).value job written (ops.Take ∷ before)
         (record { either = put.either; all = put.all; others = put.others }) (hand_taken job before next) (held_beside first jobs deeds (driver_of store).value ops.Take before refl held);
-    caused = λ begun told some more less caused. caused_job c store now begun told some more less (one_if (not written)) put.follows put.rose put.running caused;
+    caused = λ begun told some more less caused. caused_job c store now begun told some more less (one_if (not written)) put.keeps_driver put.rose put.running caused;
   }
 
   -- One after the other.

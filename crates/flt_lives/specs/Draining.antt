@@ -52,7 +52,7 @@ pub record Drains (before : History) (written failed : ℕ) (after : History) : 
   pub ended : IsDrained before jobs after
 
 module _ {B : Type 0} {b : Ghosts B} where
-  -- What so many jobs, of which some could not be written, carry on of the store, between these calls of the queue.
+  -- What this many jobs, of which some could not be written, carry on of the store, between these calls of the queue.
   pub record CarriesJobs (c : Config) (before after : History) (count failed : ℕ) (store now : Store B b) : Type 0 where
     pub held : (first : ℕ → Content) (jobs : ℕ) (deeds : List Deed) → AreHeld first before jobs deeds (driver_of store).value
         → AreHeld first after (jobs + count) deeds (driver_of now).value
@@ -67,7 +67,7 @@ module _ {B : Type 0} {b : Ghosts B} where
       × QueueStands c.blocks (Done job.block written ∷ Take ∷ before) queue
       × CarriesJobs c before (Done job.block written ∷ Take ∷ before) 1 (one_if (not written)) store now
 
-  -- A drain took so many jobs so far.
+  -- A drain took this many jobs so far.
   pub record IsDraining (c : Config) (before : History) (count written failed : ℕ) (queue : JobQueue) (store now : Store B b) : Type 0 where
     pub jobs : List TakenJob
     pub count_is : length jobs ≡ count

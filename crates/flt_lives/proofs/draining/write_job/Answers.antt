@@ -9,7 +9,7 @@ use Rattle.flt_life_model.specs.Draining.{WritesJob}
 use Rattle.flt_life_model.proofs.Causing.{rose_by}
 use Rattle.flt_queue.specs.declared.job.QueueOp.TheVariants as ops
 use Rattle.flt_queue.specs.Stands.{QueueStands}
-use Rattle.flt_live.proofs.making.write_job.Goals as goal
+use Rattle.flt_lives.proofs.draining.write_job.Goals as goal
 
 pub put_block-requires-clause-alive : goal.put_block-requires-clause-alive
 put_block-requires-clause-alive g c = (c.args.config.now, c.requires.job.0, c.requires.alive)
@@ -36,7 +36,7 @@ returns-clause-wrote g c =
       running = λ held spare running. (c.put_block.ensures.running config within held spare running).running;
       rose = λ held spare running unspent. rose_by result before.device.faults after.device.faults after.is_spent (c.put_block.ensures.running config within held spare running).flash
           (λ is. g.met.D.Blocks.stuck_is_spent c.put_block.new.self.nvm.blocks _ _ (c.put_block.ensures.puts.sequence is)) counts unspent;
-      follows = c.put_block.ensures.calls;
+      keeps_driver = c.put_block.ensures.calls;
     } in
     subst (λ w. WritesJob config job w c.args.store.now c.put_block.new.self) (sym c.is_ok-written.ensures.value) put
 

@@ -3,9 +3,9 @@ use Rattle.std.specs.Int.{from_bool}
 use Rattle.flt_turn.specs.Sums.{one_if}
 use Rattle.flt_flash.proofs.CallsInARow.{more_calls, no_call}
 use Rattle.flt_store.specs.Store.{driver_of}
-use Rattle.flt_live.specs.Draining.{IsDraining}
-use Rattle.flt_live.proofs.Jobs.{draining_first, draining_more, drains_full, drains_short}
-use Rattle.flt_live.proofs.making.drain.Goals as goal
+use Rattle.flt_lives.specs.Draining.{IsDraining}
+use Rattle.flt_lives.proofs.Jobs.{draining_first, draining_more, drains_full, drains_short}
+use Rattle.flt_lives.proofs.draining.drain.Goals as goal
 
 as_number : (b : Bool) → from_bool b ≡ one_if b
 as_number true = refl
@@ -16,7 +16,7 @@ loop-job-init g c = record {
   blocks = refl;
   running = λ held spare running. running;
   few = omega arith;
-  follows = no_call (driver_of c.args.store.now);
+  keeps_driver = no_call (driver_of c.args.store.now);
   draining = λ jobs stands. draining_first c.args.config.now jobs c.args.store.now c.args.queue.now stands;
 }
 
@@ -39,7 +39,7 @@ loop-job-preserved g c =
       blocks = c.take_job.ensures.blocks ∙ before.invariant.blocks;
       running = λ held spare running. c.take_job.ensures.running held spare (before.invariant.running held spare running);
       few = one_each was before.written before.failed before._job _ _ some none few;
-      follows = more_calls (driver_of c.args.store.now) (driver_of before.store) (driver_of c.take_job.new.store) before.invariant.follows c.take_job.ensures.calls;
+      keeps_driver = more_calls (driver_of c.args.store.now) (driver_of before.store) (driver_of c.take_job.new.store) before.invariant.keeps_driver c.take_job.ensures.calls;
       draining = λ jobs stands.
           (let on = before.invariant.draining jobs stands in
           subst (λ n. IsDraining c.args.config.now jobs (before._job + 1) n (before.failed + c.from-failed.result) c.take_job.new.queue c.args.store.now c.take_job.new.store) (omega (arith, some))
@@ -78,4 +78,4 @@ returns-clause-drained g c = λ jobs stands.
 
 pub returns-in_default-clause-calls : goal.returns-in_default-clause-calls
 returns-in_default-clause-calls g c =
-    more_calls (driver_of c.args.store.now) (driver_of c.loop-job.store) (driver_of c.take_job.new.store) c.loop-job.invariant.follows c.take_job.ensures.calls
+    more_calls (driver_of c.args.store.now) (driver_of c.loop-job.store) (driver_of c.take_job.new.store) c.loop-job.invariant.keeps_driver c.take_job.ensures.calls

@@ -6,8 +6,8 @@ use Rattle.flt_queue.specs.Stands.{QueueStands}
 use Rattle.flt_queue.proofs.Handing.{none_handed}
 use Rattle.flt_flash.proofs.CallsInARow.{no_call}
 use Rattle.flt_store.specs.Store.{driver_of}
-use Rattle.flt_live.proofs.Jobs.{carries_job, carries_take, job_out, none_out}
-use Rattle.flt_live.proofs.making.take_job.Goals as goal
+use Rattle.flt_lives.proofs.Jobs.{carries_job, carries_take, job_out, none_out}
+use Rattle.flt_lives.proofs.draining.take_job.Goals as goal
 
 pub write_job-requires-clause-job : goal.write_job-requires-clause-job
 write_job-requires-clause-job g c =
