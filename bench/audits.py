@@ -16,7 +16,7 @@ LINES = ("fail 0", "t A 19 02 08", "tick 10", "show 0", "pass 0", "t B 19 0A", "
 
 
 def script_of(calls: int) -> bytes:
-    """A script of one life with so many calls."""
+    """A script of one life with this many calls."""
     lines = ["event 0 dtc 123456", "event 1 dtc 123457 count 10 10 3 2", "cycle 0"]
     lines += [LINES[at % len(LINES)] for at in range(calls - 1)]
     return "".join(f"{line}\n" for line in lines).encode()

@@ -15,7 +15,7 @@ PAGE = 32
 
 
 def rate(file, size, does_sync, seconds):
-    """Returns how often a second so many bytes were written, each time at the next place of the file that has room for them."""
+    """returns how often a second this many bytes were written, each time at the next place of the file that has room for them."""
     ring = 2 * PAGES * PAGE // size
     bytes_written = b"\xff" * size
     start = time.monotonic()

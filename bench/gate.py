@@ -63,7 +63,7 @@ class Process:
 
 
 def own_place(process):
-    """Returns the crate and the kind that the command line and the folder of a process tell, or None."""
+    """Returns the crate and the kind that the command line and the folder of a process give, or None."""
     words, folder = process.words(), process.folder()
     if "--crate-name" in words[:-1]:
         crate = words[words.index("--crate-name") + 1]

@@ -1,5 +1,5 @@
 #!/bin/sh
-# bench/lives.sh [EVENTS]: what a run of 200 lives with 400 saves over so many events (16) costs beside one of 20: wall time (the best of
+# bench/lives.sh [EVENTS]: what a run of 200 lives with 400 saves over this many events (16) costs beside one of 20: wall time (the best of
 # five) and, where valgrind is there, instructions.
 set -eu
 events=${1:-16}

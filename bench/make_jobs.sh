@@ -1,6 +1,6 @@
 #!/bin/sh
-# make_jobs.sh [STEPS]: a script of so many steps (65536) on standard output: a job for each of 32 blocks in turn, a question for each,
-# and a drain behind them, up to the 1,024 drains that a script may have.
+# make_jobs.sh [STEPS]: a script of this many steps (65536) on standard output: a job for each of 32 blocks in turn, a question for each,
+# and a drain after them, up to the 1,024 drains that a script may have.
 steps=${1:-65536}
 awk -v steps="$steps" 'BEGIN {
     print "blocks 32"

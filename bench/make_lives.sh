@@ -1,5 +1,5 @@
 #!/bin/sh
-# make_lives.sh [LIVES [EVENTS]]: a script of so many lives (200) over so many events (16), each with two saves, on standard output.
+# make_lives.sh [LIVES [EVENTS]]: a script of this many lives (200) over this many events (16), each with two saves, on standard output.
 lives=${1:-200}
 events=${2:-16}
 echo "config 1"

@@ -1,5 +1,5 @@
 #!/bin/sh
-# make_requests.sh [STEPS [EVENTS]]: a script of so many steps (65536, the most of a script) on standard output: so many events (64) with
+# make_requests.sh [STEPS [EVENTS]]: a script of this many steps (65536, the most of a script) on standard output: this many events (64) with
 # two data identifiers each, a cycle and a report on each event, which fill the memory, and then each request of the profile in turn, by
 # the four testers.
 requests=${1:-65536}

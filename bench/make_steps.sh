@@ -1,5 +1,5 @@
 #!/bin/sh
-# make_steps.sh [STEPS [EVENTS]]: a script of so many steps (65536) over so many events (64), on standard output: a cycle, and
+# make_steps.sh [STEPS [EVENTS]]: a script of this many steps (65536) over this many events (64), on standard output: a cycle, and
 # then reports of all four kinds, shows and ticks over all events, half of which debounce by time.
 steps=${1:-65536}
 events=${2:-64}

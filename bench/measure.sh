@@ -1,5 +1,5 @@
 #!/bin/sh
-# bench/measure.sh GENERATOR UNIT [EVENTS]: what a run of a script of 65,536 units that GENERATOR makes, over so many events where that
+# bench/measure.sh GENERATOR UNIT [EVENTS]: what a run of a script of 65,536 units that GENERATOR makes, over this many events where that
 # is given, costs beside one of 4,096: wall time (the best of five), time a unit, peak memory, write calls, and instructions where
 # valgrind is there.
 set -eu

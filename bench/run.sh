@@ -1,6 +1,6 @@
 #!/bin/sh
-# bench/run.sh [EVENTS [OTHER]]: what runs of the five scripts cost, over so many events (64): 65,536 steps, requests and steps of the queue
-# of write jobs, 200 lives (over 16 events, or over so many where that is told), and 1 MiB of comments; an empty script; and a load of
+# bench/run.sh [EVENTS [OTHER]]: what runs of the five scripts cost, over this many events (64): 65,536 steps, requests and steps of the queue
+# of write jobs, 200 lives (over 16 events, or over this many where it is given), and 1 MiB of comments; an empty script; and a load of
 # 60,000 reports in one lane and in four. For each the processor time (user and system, the best of fifteen), the same by step, page faults, the
 # peak memory, and instructions where valgrind is there. Page faults and instructions are the same each time. OTHER is a second program
 # that takes the same words, such as an earlier build: it is run in turn with the first, and a second line has its figures, and a third the
@@ -18,7 +18,7 @@ program=${PROGRAM:-crates/faultmem/out/faultmem}
 scripts=$(mktemp -d)
 trap 'rm -rf "$scripts"' EXIT
 
-# The instructions of a run of program $1 on the words behind it, with this standard input; - if they are not counted.
+# The instructions of a run of program $1 on the words after it, with this standard input; - if they are not counted.
 instructions() {
     command -v valgrind >/dev/null 2>&1 || { echo -; return; }
     counted=$(valgrind --tool=callgrind --callgrind-out-file=/dev/null "$@" 2>&1 >/dev/null | sed -n 's/.*Collected : \([0-9]*\).*/\1/p')
@@ -29,7 +29,7 @@ row() {
     printf '%-12s %9s %12s %12s %12s %10s %14s\n' "$@"
 }
 
-# Runs of the program on the words behind the first three, of so many steps, with this standard input.
+# Runs of the program on the words after the first three, of this many steps, with this standard input.
 measure() {
     name=$1
     steps=$2

@@ -32,7 +32,7 @@ def rows_of(text: str) -> list[str]:
             continue
         name, steps = found[1], int(found[2])
         took, nanoseconds, faults, peak = (int(it) for it in found.groups()[2:6])
-        # A run of lives is over 16 events where their number is not told.
+        # A run of lives is over 16 events where their number is not given.
         events = "" if name in ALWAYS else "16" if name == "lives" and not table else str(EVENTS[table])
         counted = found[7] != "-"
         cells = [

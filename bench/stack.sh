@@ -1,6 +1,6 @@
 #!/bin/sh
 # bench/stack.sh [PROGRAM]: the least stack, in KB, under which the live program answers a session of 256 events as without a limit: reports,
-# requests over all events, saves, a loss of power and the start-up behind it. The system's own part (the environment, the loader) is in it.
+# requests over all events, saves, a loss of power and the start-up after it. The system's own part (the environment, the loader) is in it.
 # PROGRAM is crates/faultmem_live/out/faultmem_live where none is named.
 set -eu
 cd "$(dirname "$0")/.."

@@ -1,13 +1,13 @@
 #!/bin/sh
 # bench/storage.sh: what calls on the driver and the store cost on the flash in memory, of 1,024 pages a sector and a full log, and on the
 # EEPROM in memory, of 1,090 units, start-ups and saves over 64 and 256 events: operations of the device, instructions (where valgrind is
-# there) and time, less what the preparation costs. A first save is told by itself.
+# there) and time, less what the preparation costs. A first save is reported by itself.
 set -eu
 cd "$(dirname "$0")/.."
 program=crates/bench/out/bench
 (cd crates/bench && rt run -- storage flash mounts 0 >&2)
 
-# The operations of $3 calls of the kind $2 on the device $1, of $4 events where that is told.
+# The operations of $3 calls of the kind $2 on the device $1, of $4 events where that is given.
 operations() {
     "$program" storage "$@" | sed 's/ .*//'
 }

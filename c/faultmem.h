@@ -6,7 +6,7 @@
  * Lines: those of docs/SCRIPT.md#the-report, each with its line feed.
  * Statuses: after each status but FAULTMEM_OK, FAULTMEM_FLASH, FAULTMEM_TEXT and those that a call names below, nothing has changed.
  *
- * The flash is the caller's: two sectors of P pages of 32 bytes, page behind page, sector 0 first, for `flash 2 P`. The fault memory has
+ * The flash is the caller's: two sectors of P pages of 32 bytes, page after page, sector 0 first, for `flash 2 P`. The fault memory has
  * a copy of its image. A call that writes hands out operations; the caller carries them out in their order, and then calls
  * faultmem_done. Until then the call is not acknowledged, and each other step gives FAULTMEM_PENDING.
  */
@@ -138,13 +138,13 @@ int faultmem_failed(struct faultmem *m, const uint8_t *image, size_t size);
 /* What the last call left. */
 int faultmem_left(struct faultmem *m, struct faultmem_left *left);
 
-/* The operation of this number, counted from 0; RANGE behind the last one. */
+/* The operation of this number, counted from 0; RANGE after the last one. */
 int faultmem_operation(struct faultmem *m, size_t number, struct faultmem_operation *operation);
 
-/* Copies the line of the last call, as much as there is room for, and a NUL behind it; `size` is at least 1. */
+/* Copies the line of the last call, as much as there is room for, and a NUL after it; `size` is at least 1. */
 int faultmem_line(struct faultmem *m, char *text, size_t size);
 
-/* Copies the response, or the image, as much as there is room for, and tells how many bytes these are. */
+/* Copies the response, or the image, as much as there is room for, and returns how many bytes these are. */
 int faultmem_response(struct faultmem *m, uint8_t *bytes, size_t size, size_t *length);
 int faultmem_image(struct faultmem *m, uint8_t *bytes, size_t size, size_t *length);
 

@@ -4,7 +4,7 @@
         memory.cycle(0)
         print(memory.report(0, FAILED))          # fail 0 -> taken
 
-A call that writes hands out operations. `flash`, if it is given, is a bytearray on which they are carried out, and told to be done; without
+A call that writes hands out operations. `flash`, if it is given, is a bytearray on which they are carried out, and reported as done; without
 it they are done on the copy that the handle has. A status that is not OK is raised as `Refused`.
 """
 

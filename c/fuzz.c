@@ -1,8 +1,8 @@
 /*
- * Makes so many random calls, most of which are good and some of which are not: `fuzz CALLS [SEED]`. What the header says of a status
+ * Makes this many random calls, most of which are good and some of which are not: `fuzz CALLS [SEED]`. What the header says of a status
  * must hold.
  */
-/* Here the flash and the image may differ, since `done` is told of operations that were not carried out. */
+/* Here the flash and the image may differ, since `done` is called for operations that were not carried out. */
 #define FLASH_UNCHECKED
 #include "flash.h"
 

@@ -16,7 +16,7 @@ CANDUMP = re.compile(
     rb"#(?:#(?P<flags>[0-9A-Fa-f]))?(?P<data>(?:[0-9A-Fa-f]{2})*)(?: [RT])?"
 )
 REMOTE = re.compile(rb"\(\d+\.\d+\) +\S+ +[0-9A-Fa-f]+#R\d?(?: [RT])?")
-# ` 0.015991 1  7E0             Rx   d 8 02 3E 00 AA AA AA AA AA`, and what may stand behind it.
+# ` 0.015991 1  7E0             Rx   d 8 02 3E 00 AA AA AA AA AA`, and what may follow it.
 ASC = re.compile(
     rb"\s*(?P<time>\d+\.\d+)\s+(?P<channel>\d+)\s+(?P<id>[0-9A-Fa-f]+)(?P<wide>x?)\s+[RT]x\s+d\s+"
     rb"(?P<size>[0-9A-Fa-f]+)(?P<data>(?:\s+[0-9A-Fa-f]+)*)(?P<rest>\s+[A-Za-z]+ = .*)?\s*"
@@ -182,7 +182,7 @@ def refused(piece: Piece, what: str) -> CaptureError:
 
 
 def cut(piece: Piece, size: int) -> Piece:
-    """The first bytes of a piece; the padding behind them is let go."""
+    """The first bytes of a piece; the padding after them is dropped."""
     left, places = size * piece.width, []
     for place, length in piece.places:
         used = min(left, length)

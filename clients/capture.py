@@ -1,6 +1,6 @@
 """What the readers of captures share: why a capture is refused, and the names of its bytes.
 
-Each byte of a capture has a name, so that a change of one can be told: it is a byte of a request or
+Each byte of a capture has a name, so that a change of one can be reported: it is a byte of a request or
 of an answer, one that decides how these are found, or one on which no trace depends.
 """
 
@@ -53,7 +53,7 @@ class Names:
     spans: list[Span] = field(default_factory=list)
 
     def name(self, start: int, size: int, name: str, is_read: bool = False) -> int:
-        """Names some bytes, and returns the place behind them."""
+        """Names some bytes, and returns the place after them."""
         if size > 0:
             self.spans.append(Span(start, start + size, name, is_read))
         return start + size

@@ -24,7 +24,7 @@ import programs
 from words import dtc_of, j2012_of
 
 WHOLE = ("config", "memory", "blocks", "flash")
-# The pairs of an event line: how many numbers are behind each word. `dtc` and `dids` are apart.
+# The pairs of an event line: how many numbers follow each word. `dtc` and `dids` are apart.
 PAIRS = {
     "prio": 1,
     "cycle": 1,

@@ -54,7 +54,7 @@ def lives_before(script: str) -> str:
 
 
 def beginning_of(script: str, base: list[str], using: Programs) -> str:
-    """Lines of a script behind which a life begins with this base."""
+    """Lines of a script after which a life begins with this base."""
     for it in (lives_before(script), programs.lines_of(configuration_of(script))):
         ran = using.run("trace", it)
         if ran.status == 0 and json.loads(ran.text)["base"] == base:

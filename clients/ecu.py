@@ -12,7 +12,7 @@ from typing import TextIO
 from live import Live
 from script import request_line
 
-# A tick has 10 ms; one step takes at most so many.
+# A tick has 10 ms; one step takes at most this many.
 TICKS_A_SECOND = 100
 MOST_TICKS = 65_535
 MOST_ANSWERS = 1024
@@ -25,7 +25,7 @@ class TableError(Exception):
 
 @dataclass(frozen=True)
 class Fixed:
-    """A fixed answer, none for silence, and the steps of the car that are made behind it."""
+    """A fixed answer, none for silence, and the steps of the car that are made after it."""
 
     answer: bytes | None
     steps: tuple[str, ...]
@@ -89,7 +89,7 @@ class Records:
             self._table.writerow(("time", "call", "answer"))
 
     def taken(self, line: str, answer: str, by_car: bool) -> None:
-        """Notes a line that was taken; one of the car's side stands in the table too."""
+        """Notes a line that was taken; one of the car's side is in the table too."""
         if self._journal:
             self._journal.write(f"{line}\n")
         if self._table and by_car:
@@ -146,7 +146,7 @@ class Ecu:
         """Sends a tester's request and returns the answer; none where it is silent.
 
         The ticks that are due are made before, by `advance`: none comes between the time at which a
-        request stands in a capture and the request. The fault memory is asked first, so its own
+        request is in a capture and the request. The fault memory is asked first, so its own
         services and S3 are never touched by the table. A fixed answer is given where it refuses the
         service.
         """

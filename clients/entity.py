@@ -102,7 +102,7 @@ class Peer:
 class Tester(Peer):
     """A connection of a tester; its source address once routing is activated.
 
-    Responses are held until their time, and what is sent behind them with them.
+    Responses are held until their time, and what is sent after them with them.
     """
 
     stream: Stream = field(default_factory=lambda: Stream(ON_TCP, MOST_BODY))
@@ -376,7 +376,7 @@ class Entity:
             self._sessions.note(self._ecu.stamp(), *ports, message.encoded(), by_tester)
 
     def _send(self, tester: Tester, message: Message, pause: float = 0.0) -> None:
-        """Has a message wait for the tester; it goes behind this pause, and behind what is held."""
+        """Has a message wait for the tester; it goes after this pause, and after what is held."""
         self._note(tester, message, by_tester=False)
         due = self._clock() + pause if pause else -math.inf
         if tester.held:

@@ -136,7 +136,7 @@ class Live:
         return self.begins.endswith(" dark")
 
     def step(self, line: str) -> str:
-        """Makes one line and returns its answer: the text behind the arrow, or the first line of
+        """Makes one line and returns its answer: the text after the arrow, or the first line of
         the next life.
 
         A comment and an empty line answer nothing. Raises Refused, Ended or NoAnswer.
@@ -301,7 +301,7 @@ def typed_lines(prompt: str) -> Iterable[str]:
 
 
 def run_shell(live: Live, lines: Iterable[str]) -> None:
-    """Prints the first life's line, and then what is behind each line."""
+    """Prints the first life's line, and then what follows each line."""
     print(live.begins, flush=True)
     for line in lines:
         if line.split() == ["quit"]:

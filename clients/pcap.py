@@ -1,7 +1,7 @@
 """Captures: pcap and pcapng are read down to the streams of TCP, and pcap is written. No library is
 needed.
 
-Each byte that is read is known by its place in the file, so that a change of one byte can be told
+Each byte that is read is known by its place in the file, so that a change of one byte can be reported
 by name.
 """
 
@@ -327,7 +327,7 @@ class Flow:
         return b"".join(data for _, data in self.chunks)[:size]
 
     def take(self, size: int) -> Piece:
-        """Takes so many bytes from the front; they are there."""
+        """Takes this many bytes from the front; they are there."""
         data, places = b"", []
         while len(data) < size:
             place, chunk = self.chunks.pop(0)

@@ -37,7 +37,7 @@ MOST_TICKS = 65_535
 # The services of the fault memory. Another service is refused by it, whatever the controller
 # answers.
 SERVICES = (0x10, 0x14, 0x19, 0x3E, 0x85)
-# Steps that call the status machine, and steps of the store, which stand in no journal.
+# Steps that call the status machine, and steps of the store, which are in no journal.
 CALLS = ("pass", "fail", "prepass", "prefail", "show", "cycle", "tick", "sig", "enable", "t")
 OF_STORE = ("post", "urge", "drain", "get", "ask", "cut", "fault", "mute")
 # Answers of a life that is dark are none of the status machine.

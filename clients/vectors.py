@@ -146,7 +146,7 @@ def report_of(vector: dict[str, Any]) -> str:
 def pcap_of(vector: Vector) -> bytes | None:
     """The requests and responses of a vector as DoIP; none if it has no request.
 
-    A step takes a millisecond, a tick ten, and a life begins a minute behind the last.
+    A step takes a millisecond, a tick ten, and a life begins a minute after the last.
     """
     file = io.BytesIO()
     sessions = Sessions(file)

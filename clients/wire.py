@@ -54,7 +54,7 @@ class HeaderFault(IntEnum):
 
     @property
     def closes(self) -> bool:
-        """Whether the connection is closed behind it: what follows cannot be told from noise."""
+        """Whether the connection is closed after it: what follows cannot be told from noise."""
         return self in (HeaderFault.PATTERN, HeaderFault.LENGTH)
 
 
@@ -188,7 +188,7 @@ class Stream:
     """Messages out of the bytes of a connection; one message at most is kept."""
 
     def __init__(self, taken: frozenset[Kind], most: int = MOST_BODY) -> None:
-        """Takes messages of these kinds, with bodies of so many bytes at most."""
+        """Takes messages of these kinds, with bodies of this many bytes at most."""
         self._taken = taken
         self._most = most
         self._kept = bytearray()

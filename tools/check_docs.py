@@ -2,15 +2,15 @@
 """Checks the pages of the repository, and ends with 1 where one is wrong.
 
 It looks at README.md, CHANGELOG.md, docs/, tools/, clients/ and crates/README.md, in whose tree each crate has a line. The table of docs/ARCHITECTURE.md has each place
-that names all kinds of steps of a script. Each name that a page says to stand in a crate, or in a file of its definitions, or that links to a
-file of code, stands there; each module of definitions is in the crate that is named beside it; each file that a page links or names by its path is there; each report that a page shows is what its script prints:
+that names all kinds of steps of a script. Each name that a page says to be in a crate, or in a file of its definitions, or that links to a
+file of code, is there; each module of definitions is in the crate that is named beside it; each file that a page links or names by its path is there; each report that a page shows is what its script prints:
 of a script in crates/examples/data the report beside it has those lines, and a script in a page is run, where the program is built; each
 picture that docs/PICTURES.md says to be made by a command of clients/draw.py is what it prints, where the program that it runs is built; and the commands of a block
 `console`, which begin with `$ `, print what the page shows, where the programs that they name are built. The commands of a section (`## `) are
-run one behind the other, in one shell and in a folder of their own; a line that begins with `> ` goes on with the command above it.
+run one after the other, in one shell and in a folder of their own; a line that begins with `> ` goes on with the command above it.
 
 Blocks `console long`, which prove something, are left out without --long. A page has at most the words of LIMITS. A block whose first line names a file of the repository, as ```rust crates/flt_io/src/lib.rt, is a
-quotation: its lines stand there, one behind the other. Commands stand in blocks `console` alone, and in the few blocks `sh`: those of the gate, of
+quotation: its lines are there, one after the other. Commands are only in blocks `console`, and in the few blocks `sh`: those of the gate, of
 measurements and of an editor. Of each of these a short form is run, which SHORTS has and which writes no page, or with --long a longer one; the command of the
 gate, which runs this check, is compared with .ci/run. What is not run is named, with what is not there. A link to a heading leads to one.
 """
@@ -170,7 +170,7 @@ def text_of(path):
 
 
 def words_of(crate, found={}):
-    """Returns the sources and definitions of a crate, one behind the other."""
+    """Returns the sources and definitions of a crate, one after the other."""
     if crate not in found:
         files = glob.glob(f"{TOP}/crates/{crate}/**/*", recursive=True)
         found[crate] = "".join(text_of(it) for it in files if it.endswith((".rt", ".antt")) and "/out/" not in it)
@@ -220,7 +220,7 @@ def wrong_links(page, text):
 
 
 def wrong_modules(text):
-    """Modules of definitions that are not in the crate that is named beside them, or in none, and names behind them that they do not have."""
+    """Modules of definitions that are not in the crate that is named beside them, or in none, and names after them that they do not have."""
     for before, module, behind, names in MODULE.findall(text):
         crate = before or behind
         paths = glob.glob(f"{TOP}/crates/{crate or 'flt_*'}/specs/{module}.antt")
@@ -289,7 +289,7 @@ def wrong_reports(text):
 
 
 def commands_of(section: str, with_long: bool) -> list[tuple[str, list[str]]]:
-    """The commands of a section, each with the lines that are shown behind it."""
+    """The commands of a section, each with the lines that are shown after it."""
     found = []
     for line in "".join((CONSOLE_OR_LONG if with_long else CONSOLE).findall(section)).split("\n")[:-1]:
         if line.startswith("$ "):
@@ -325,7 +325,7 @@ def wrapper_for(commands):
 
 
 def free_port():
-    """A port that is free, as is the one behind it."""
+    """A port that is free, as is the one after it."""
     while True:
         with socket.create_server(("127.0.0.1", 0)) as one:
             port = one.getsockname()[1]
@@ -480,7 +480,7 @@ def wrong_length(page: str, text: str):
 
 
 def wrong_numbers(page: str, text: str):
-    """Numbers of README that the repository tells otherwise."""
+    """Numbers of README that differ from those of the repository."""
     if os.path.relpath(page, TOP) != "README.md":
         return
     crates = len(re.findall(r"^[a-z_]+[^#\n]*:", text_of(f"{TOP}/crates.txt"), re.M))
@@ -491,7 +491,7 @@ def wrong_numbers(page: str, text: str):
 
 
 def wrong_quotations(text: str):
-    """Blocks that are said to stand in a file, and do not."""
+    """Blocks that are said to be in a file, and are not."""
     for info, block in FENCED.findall(text):
         path = f"{TOP}/{info.split()[-1]}" if len(info.split()) == 2 else ""
         if "/" not in info or not path:

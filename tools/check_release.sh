@@ -11,7 +11,7 @@ work=$(mktemp -d) || exit 1
 trap 'rm -rf "$work"' EXIT
 trap 'exit 1' HUP INT TERM
 
-# Whether a program is built of the sources that are here: the wrapper then runs it without rt, and tells nothing.
+# Whether a program is built of the sources that are here: the wrapper then runs it without rt, and prints nothing.
 mkdir "$work/no-rt"
 for it in awk cat cksum dirname find grep head ls mktemp readlink rm sed sort tail tr; do
     file=$(command -v "$it") && ln -s "$file" "$work/no-rt/$it"

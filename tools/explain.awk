@@ -73,7 +73,7 @@ function plain(cell) {
     return cell
 }
 
-# The row of a line: for each word that begins one, how it is written. The rows of the words that stand alone have no range.
+# The row of a line: for each word that begins one, how it is written. The rows of words without numbers have no range.
 function read_line_row(i, n, parts, word) {
     n = split($2, parts, "`")
     for (i = 2; i <= n; i += 2) {
@@ -123,7 +123,7 @@ function split_words(text, into) {
     return text == "" ? 0 : split(text, into, /[ \t]+/)
 }
 
-# What stands above the line: how many events, where each word of a configuration first stands, and where the first other line. Of the
+# What is above the line: how many events, where each word of a configuration first is, and where the first other line is. Of the
 # data identifiers those below count too, as their widths are added up in the end.
 function read_script_line(n, words) {
     n = split_words($0, words)

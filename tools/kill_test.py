@@ -19,7 +19,7 @@ from pathlib import Path
 
 from live_session import Config, Ended, Session, random_call, random_config, random_job, report_of
 
-# After so many lives a blank file and another configuration are taken: a script has at most 256 lives.
+# After this many lives a blank file and another configuration are taken: a script has at most 256 lives.
 LIVES = 24
 
 
@@ -62,7 +62,7 @@ class Counts:
 
 
 def probes(config: Config) -> list[str]:
-    """The lines whose answers tell the state, and change nothing that is saved."""
+    """The lines whose answers give the state, and change nothing that is saved."""
     lines = [f"show {event}" for event in range(config.events)]
     lines += ["t A 19 02 FF", "t A 19 0A", "t A 19 03", "t A 19 01 FF"]
     for event in range(min(config.events, 4)):
@@ -148,7 +148,7 @@ def live_on(
         line = next_line(config, chance)
         life.lines.append(line)
         if line == "save":
-            # The first save behind the last acknowledged one may be found; after a write that failed nothing is written.
+            # The first save after the last acknowledged one may be found; after a write that failed nothing is written.
             number = (life.acknowledged or past.generation) + 1
             life.saves.setdefault(number, len(life.lines))
         if line == "drain":
@@ -162,7 +162,7 @@ def live_on(
 
 
 def let_writes_fail(session: Session, place: int) -> None:
-    """Lets each write fail that goes behind this place of a file."""
+    """Lets each write fail that goes beyond this place of a file."""
     _, hard = resource.prlimit(session.child.pid, resource.RLIMIT_FSIZE)
     resource.prlimit(session.child.pid, resource.RLIMIT_FSIZE, (place, hard))
 

@@ -51,7 +51,7 @@ def random_lines(config: Config, chance: random.Random) -> list[str]:
 
 
 def compare(live: Path, run: Path, folder: Path, chance: random.Random) -> str | None:
-    """Makes a script by both programs, and tells the first difference."""
+    """Makes a script by both programs, and returns the first difference."""
     config = random_config(chance)
     lines = random_lines(config, chance)
     report = report_of(run, "run", config.text() + "".join(f"{line}\n" for line in lines))

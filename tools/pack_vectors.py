@@ -6,9 +6,9 @@ the first underscore.
 
 In a folder, the file INDEX has a line `NAME WORD STATUS` for each vector, and NAME.script and NAME.report are its script and its report.
 
-A pack has the vectors of one kind, one behind the other. Each is a line `NAME WORD STATUS SCRIPT_BYTES REPORT_BYTES`, then so many bytes of
-the script and a line feed, then so many bytes of the report and a line feed. A script may hold any byte, so only the two lengths say where it
-ends; the line feed behind it is there for readers.
+A pack has the vectors of one kind, one after the other. Each is a line `NAME WORD STATUS SCRIPT_BYTES REPORT_BYTES`, then the script in
+that number of bytes and a line feed, then the report in that number of bytes and a line feed. A script may hold any byte, so only the two
+lengths say where it ends; the line feed after it is there for readers.
 """
 from __future__ import annotations
 
@@ -61,7 +61,7 @@ class Vector:
 
     @property
     def packed(self) -> bytes:
-        """The vector as it stands in a pack."""
+        """The vector as it is in a pack."""
         header = f"{self.name} {self.word} {self.status} {len(self.script)} {len(self.report)}"
         return b"\n".join((header.encode(), self.script, self.report, b""))
 

@@ -1,7 +1,7 @@
 #!/bin/sh
 # tools/release.sh [--unproved] LOG FOLDER: makes the archive of a release in this folder, and prints its name. It has the three programs, in
 # bin/, the wrapper that runs them there, the pages, the clients, the examples of the pages, and a checksum of each file. LOG is what
-# rt ci wrote; its last line is told in the archive's file RELEASE, and has to say that nothing failed.
+# rt ci wrote; its last line is in the archive's file RELEASE, and has to say that nothing failed.
 #
 # The programs are those of these sources: one that is not built, or is of others, ends it with status 1. With --unproved the programs
 # are those of ./faultmem try, and the name and RELEASE say so; it is for trying the archive, and not for giving it away.
@@ -41,7 +41,7 @@ name=faultmem-$version-$(uname -s | tr '[:upper:]' '[:lower:]')-$(uname -m)${unp
 root=$work/$name
 mkdir -p "$root/bin" "$root/crates"
 
-# The programs. Whether one is that of its sources the wrapper knows, which then tells nothing. It is given no rt, so it builds none.
+# The programs. Whether one is that of its sources the wrapper knows, which then prints nothing. It is given no rt, so it builds none.
 mkdir "$work/no-rt"
 for it in awk cat cksum dirname find grep head ls mktemp readlink rm sed sort tail tr; do
     ln -s "$(command -v "$it")" "$work/no-rt/$it"

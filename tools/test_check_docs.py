@@ -60,7 +60,7 @@ class Pages(unittest.TestCase):
         self.assertEqual([it.strip() for it in printed], ["a b", "c\nwords run", "long"])
 
     def test_blocks(self) -> None:
-        """A command stands in no other block."""
+        """A command is in no other block."""
         self.assertEqual(list(check_docs.wrong_blocks(CONSOLE)), [])
         self.assertEqual(list(check_docs.wrong_blocks("```sh\nrt ci\n```\n")), [])
         for text in ("```\n./faultmem run\n```\n", "a\n\n    tools/check_docs.py --long\n\nb\n", "```text\n$ ls\n```\n"):
@@ -68,7 +68,7 @@ class Pages(unittest.TestCase):
         self.assertEqual(list(check_docs.wrong_blocks("a\n\n    event 0 dtc 123456\n    cycle 0\n")), [])
 
     def test_quotations(self) -> None:
-        """A quotation stands in its file, line by line."""
+        """A quotation is in its file, line by line."""
         with open(f"{TOP}/crates.txt", encoding="utf-8") as it:
             lines = it.read().split("\n")[:2]
         good = "\n".join(lines)

@@ -68,11 +68,11 @@ class PackVectors(unittest.TestCase):
         self.assertEqual(files_of(self.top / "packs"), {pack.name: pack.read_bytes() for pack in packs})
 
     def test_a_vector_is_found_by_its_name(self) -> None:
-        """A line of the pack begins with the name, and the script and the report stand behind it as they are."""
+        """A line of the pack begins with the name, and the script and the report follow it as they are."""
         self.assertEqual(VECTORS[0].packed, b"plain_1 run 0 8 17\ncycle 0\n\ncycle 0 -> taken\n\n")
 
     def test_a_pack_that_is_cut_short_is_refused(self) -> None:
-        """Of the fronts of a pack only those are read that end behind a vector."""
+        """Of the fronts of a pack only those are read that end after a vector."""
         packed = [vector.packed for vector in VECTORS]
         ends = {len(b"".join(packed[:count])): count for count in range(len(packed) + 1)}
         whole = b"".join(packed)

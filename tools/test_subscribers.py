@@ -27,7 +27,7 @@ def calls_of(profile: str) -> dict[str, int]:
     calls: dict[str, int] = {}
     for line, after in zip(lines, lines[1:]):
         called = CALLED.match(line)
-        # The line `calls=` stands behind `cfn=`, or behind the file of it.
+        # The line `calls=` follows `cfn=`, or the file of it.
         if called and after.startswith("calls="):
             name = names[called.group(1)]
             calls[name] = calls.get(name, 0) + int(after[6:].split(" ")[0])

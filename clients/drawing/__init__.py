@@ -1,1 +1,1 @@
-"""Pictures of the fault memory: what draw.py stands on."""
+"""Pictures of the fault memory: what draw.py is built on."""

@@ -59,7 +59,7 @@ def word_of(page: bytes) -> Optional[bytes]:
 
 
 def is_valid(word: Optional[bytes], begins: bytes, length: int) -> bool:
-    """Whether a word begins so, and has nothing behind its length."""
+    """Whether a word begins so, and has nothing after its length."""
     return word is not None and word.startswith(begins) and not any(word[length:])
 
 

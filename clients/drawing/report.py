@@ -1,8 +1,8 @@
-"""A script and what became of it: each call with its answer, and what each event shows behind it.
+"""A script and what became of it: each call with its answer, and what each event shows after it.
 
 The `show`s are put into the script here, and the program makes the script with them. A `show`
 changes nothing, so every other answer is as it would be without them. No rule of the fault memory
-is told here once more: each state is the program's answer.
+is repeated here: each state is the program's answer.
 """
 
 import re
@@ -24,7 +24,7 @@ SHOWN = re.compile(
 
 @dataclass(frozen=True)
 class State:
-    """What a `show` tells about an event."""
+    """What a `show` says about an event."""
 
     status: int
     fdc: int
@@ -48,7 +48,7 @@ class Event:
 class Call:
     """A call, or the beginning of a life: its text, its answer, and the state of each event.
 
-    The states are those behind the call, and nothing where they are not known.
+    The states are those after the call, and nothing where they are not known.
     """
 
     number: int
@@ -113,7 +113,7 @@ def event_of(words: Sequence[str]) -> Event:
 class Script:
     """The lines of a script: its configuration, its calls, and the places where shows go.
 
-    Such a place is behind a call, and nothing else goes on there.
+    Such a place is after a call, and nothing else goes on there.
     """
 
     def __init__(self, given: bytes, otherwise: str) -> None:
@@ -204,7 +204,7 @@ class Script:
 
 
 def state_of(answer: str) -> Optional[State]:
-    """Returns what a show tells, or nothing if its life is dark."""
+    """Returns what a show says, or nothing if its life is dark."""
     found = SHOWN.fullmatch(answer)
     if not found:
         return None
@@ -231,7 +231,7 @@ def take_lines(items: Sequence[Item], lines: Sequence[str], calls: List[Call]) -
 
 
 def report_of(given: bytes, otherwise: str, program: Program) -> Report:
-    """Makes a script with a show of each event behind each call."""
+    """Makes a script with a show of each event after each call."""
     status, said = program.run("check", given, (0, 2))
     if status != 0:
         raise NotDrawn(Cause.REFUSED, "\n".join(said))

@@ -56,7 +56,7 @@ def look_of(record: Record, newest: Dict[int, Record], named: List[int]) -> str:
 
 
 def label_of(record: Record) -> List[str]:
-    """Returns what stands in a record, the longest text first."""
+    """Returns what is in a record, the longest text first."""
     if record.kind in ("Start", "Active", "torn"):
         return [record.kind, record.kind[0]]
     name = name_of(record.block)

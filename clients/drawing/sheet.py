@@ -49,7 +49,7 @@ GROUNDS: Dict[str, Tuple[str, str]] = {
 
 
 def style() -> str:
-    """Returns the rules of the document: those of light, and behind them what is other in dark."""
+    """Returns the rules of the document: those of light, and after them what is other in dark."""
 
     def colours(which: int) -> str:
         rules = [f".paper{{fill:{PAPER[which]}}}"]
@@ -115,7 +115,7 @@ class Sheet:
         )
 
     def paragraph(self, text: str, name: str = "text", left: float = 0, hanging: float = 0) -> None:
-        """Writes lines of a text, moved in by `left`; those behind the first by `hanging` too."""
+        """Writes lines of a text, moved in by `left`; those after the first by `hanging` too."""
         letters = int((self.room - left - hanging) / (SIZES[name] * LETTER))
         for at, line in enumerate(textwrap.wrap(text, letters, break_on_hyphens=False)):
             self.y += SIZES[name] + 4

@@ -83,7 +83,7 @@ def spans(values: Sequence[Value]) -> List[Tuple[int, int, Value]]:
 
 
 def cycles_of(calls: Sequence[Call], kind: int) -> List[int]:
-    """Returns which operation cycle of this kind goes on behind each call, from 1; 0 for none."""
+    """Returns which operation cycle of this kind goes on after each call, from 1; 0 for none."""
     count, at, found = 0, 0, []
     for call in calls:
         if call.word in ("life", "power"):
@@ -96,12 +96,12 @@ def cycles_of(calls: Sequence[Call], kind: int) -> List[int]:
 
 
 def is_listed(call: Call) -> bool:
-    """Whether a call stands with its whole answer below the rows."""
+    """Whether a call is shown with its whole answer below the rows."""
     return call.word == "t" or len(head_of(call)) > LETTERS
 
 
 def head_of(call: Call) -> str:
-    """Returns what stands over the column of a call."""
+    """Returns what is written over the column of a call."""
     lane = f"lane {call.lane}: " if call.lane is not None else ""
     if call.word == "t" or (
         call.answer in ("taken", "armed", "accepted", "dark") and call.word != "power"

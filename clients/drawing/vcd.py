@@ -51,7 +51,7 @@ def values_of(state: Optional[State]) -> List[Optional[int]]:
 
 
 def generation_of(call: Call, before: Optional[int]) -> Optional[int]:
-    """Returns the generation that is acknowledged behind a call."""
+    """Returns the generation that is acknowledged after a call."""
     if call.word in ("life", "power"):
         words = call.answer.split()
         return int(words[1]) if words[0] == "generation" else None
@@ -114,7 +114,7 @@ def declared(names: Names, events: List[Event]) -> Tuple[Dict[str, str], Dict[in
 def values(
     report: Report, whole: Dict[str, str], each: Dict[int, List[str]]
 ) -> Iterator[Dict[str, str]]:
-    """Yields for each call the text of each variable's value behind it."""
+    """Yields for each call the text of each variable's value after it."""
     generation: Optional[int] = None
     ticks = 0
     for call in report.calls:

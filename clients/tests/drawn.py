@@ -46,7 +46,7 @@ def made(script: str) -> Report:
 
 
 def random_state(dice: random.Random) -> State:
-    """Returns any state that a show can tell."""
+    """Returns any state that a show can give."""
     return State(
         dice.randrange(256),
         dice.randint(-128, 127),
@@ -58,7 +58,7 @@ def random_state(dice: random.Random) -> State:
 
 
 def random_report(dice: random.Random, calls: int, events: int) -> Report:
-    """Returns a report of any calls, with any states behind them."""
+    """Returns a report of any calls, with any states after them."""
     texts = (
         "fail 0",
         "cycle 0",

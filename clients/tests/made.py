@@ -68,7 +68,7 @@ def some_session(
 
 
 def as_pcap(session: Session, pieces: int = 1400) -> bytes:
-    """DoIP over TCP: a connection for each tester, messages in segments of so many bytes."""
+    """DoIP over TCP: a connection for each tester, messages in segments of this many bytes."""
     file = io.BytesIO()
     sessions = Sessions(file)
     known: set[int] = set()
@@ -101,7 +101,7 @@ def frames_of(data: bytes) -> Iterator[bytes]:
 
 
 def can_frames(session: Session) -> Iterator[tuple[int, int, bytes]]:
-    """Time, identifier and bytes of each frame, with a flow control behind each first frame."""
+    """Time, identifier and bytes of each frame, with a flow control after each first frame."""
     for time, tester, data, answer in session.requests():
         for identifier, message in ((0x7E0 + tester, data), (0x7E8 + tester, answer)):
             for frame in frames_of(message) if message is not None else ():

@@ -59,7 +59,7 @@ class Tables(unittest.TestCase):
     """Tables and lines."""
 
     def test_semicolons_and_empty_columns(self) -> None:
-        """A table with semicolons, and with empty cells behind its columns, has the same lines."""
+        """A table with semicolons, and with empty cells after its columns, has the same lines."""
         rows = list(csv.reader(io.StringIO(TABLE)))
         out = io.StringIO()
         csv.writer(out, delimiter=";").writerows([*row, "", ""] for row in rows)

@@ -69,7 +69,7 @@ class OverTheEntity(InFolder):
         capture: io.BytesIO | None = None,
         using: Programs | None = None,
     ) -> Running:
-        """Starts an entity over a new memory; both are ended behind the test."""
+        """Starts an entity over a new memory; both are ended after the test."""
         memory = Live.start(self.configuration, using=using or self.programs)
         self.addCleanup(memory.close)
         ecu = Ecu(memory, read_answers(answers), clock, records)
@@ -254,7 +254,7 @@ class Diagnostics(OverTheEntity):
     """Diagnostic messages."""
 
     def test_requests_are_acknowledged_and_answered(self) -> None:
-        """A response comes behind the acknowledge, positive or negative, if not suppressed."""
+        """A response comes after the acknowledge, positive or negative, if not suppressed."""
         running = self.start()
         car, tester = self.car_of(running), self.connect(running)
         self.assertEqual([car.ask(it) for it in ("cycle 0", "fail 0")], ["taken", "taken"])
@@ -325,7 +325,7 @@ class Diagnostics(OverTheEntity):
 
     def test_a_response_comes_behind_its_pause(self) -> None:
         """The acknowledge comes at once, and another tester is served meanwhile. What is sent
-        behind a response stays behind it, and the end of a connection waits for none.
+        after a response stays after it, and the end of a connection waits for none.
         """
         running = self.start(replace(FREE, pause_seconds=0.4))
         tester, other = self.connect(running), self.connect(running, 0x0E81)
@@ -352,7 +352,7 @@ class Diagnostics(OverTheEntity):
         self.assertEqual(testers[3].ask(b"\x85\x02"), b"\xc5\x02")
 
     def test_noise_never_ends_the_entity(self) -> None:
-        """Bytes by chance on all three ports, and a good request behind them."""
+        """Bytes by chance on all three ports, and a good request after them."""
         running = self.start()
         chance = random.Random(13400)
         for _ in range(number(6, 200)):
@@ -448,7 +448,7 @@ class BesideRun(OverTheEntity):
     """A session by chance is, byte for byte, what `run` gives for the same calls."""
 
     def play(self, requests: int) -> Played:
-        """Plays a session of so many requests of four testers, with steps of the car between."""
+        """Plays a session of this many requests of four testers, with steps of the car between."""
         chance = random.Random(14229)
         journal, capture, clock = io.StringIO(), io.BytesIO(), Clock()
         text = "".join(f"{line}\n" for line in CONFIGURATION)
@@ -550,7 +550,7 @@ class BesideRun(OverTheEntity):
         return f"t {letter} {request.hex(' ').upper()}", answer
 
     def is_silent(self, tester: Connection) -> bool:
-        """Whether nothing comes before the answer to a routing activation asked behind it."""
+        """Whether nothing comes before the answer to a routing activation asked after it."""
         tester.send(bytes.fromhex("02FD000500000007") + struct.pack("!H", tester.source) + bytes(5))
         answer = tester.read()
         assert answer is not None

@@ -17,7 +17,7 @@ from drawing.vcd import vcd
 
 
 def changes(text: str) -> Tuple[Dict[str, str], Iterator[Dict[str, str]]]:
-    """Reads a VCD file: the names of its variables, and their values behind each call."""
+    """Reads a VCD file: the names of its variables, and their values after each call."""
     head, _, body = text.partition("$enddefinitions $end\n")
     names, scopes = {}, []
     for words in (line.split() for line in head.splitlines()):

@@ -32,7 +32,7 @@ class OverTheMemory(InFolder):
         return memory
 
     def test_steps_and_requests_are_answered(self) -> None:
-        """A step gives the text behind the arrow, a request its response or None."""
+        """A step gives the text after the arrow, a request its response or None."""
         with self.start() as memory:
             self.assertEqual(memory.begins, "life 1 generation 0")
             self.assertEqual(memory.step("cycle 0"), "taken")
@@ -115,7 +115,7 @@ class OverTheMemory(InFolder):
         self.assertEqual(["life 1 generation 0", *given], due)
 
     def test_the_shell_says_what_an_answer_means(self) -> None:
-        """Behind a status, a list of DTCs and a negative response stand words."""
+        """A status, a list of DTCs and a negative response are followed by words."""
         with self.start() as memory:
             memory.step("cycle 0")
             memory.step("fail 0")
@@ -185,7 +185,7 @@ class Words(unittest.TestCase):
         self.assertEqual(status_in_words(0x81), "testFailed, warningIndicatorRequested")
 
     def test_an_answer_that_speaks_for_itself(self) -> None:
-        """It has no words behind it."""
+        """It has no words after it."""
         for answer in ("taken", "", "54", "7E 00", "1", "life 2 generation 1", "01 AF"):
             self.assertEqual(answer_in_words(answer), [])
 

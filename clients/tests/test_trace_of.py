@@ -167,7 +167,7 @@ class Captures(InFolder):
             self.assertIn(f"  given {given[place]}\n  due   {right[place]}", lines[1])
 
     def test_all_that_differ(self) -> None:
-        """With --all each wrong answer is told; a save's two calls are in the journal."""
+        """With --all each wrong answer is reported; a save's two calls are in the journal."""
         session = Session([], [])
         text = json.dumps(
             {
@@ -196,7 +196,7 @@ class Captures(InFolder):
             judge(json.dumps(object_of).encode(), False, self.programs)
 
     def test_the_traces_of_the_program(self) -> None:
-        """A trace of the program is right, and what is due is found behind lives with saves."""
+        """A trace of the program is right, and what is due is found after lives with saves."""
         script = TEXT + "cycle 0\nfail 0\nsave\npower\nshow 0\nsave\nt A 19 02 08\n"
         text = self.programs.run("trace", script).printed
         self.assertEqual(judge(text, True, self.programs), (0, ["yes 4"]))

@@ -101,7 +101,7 @@ class Connection:
         return self._got.pop(0)
 
     def kinds(self, count: int) -> list[Kind | None]:
-        """The kinds of so many next messages."""
+        """The kinds of this many next messages."""
         read = [self.read() for _ in range(count)]
         return [it and it.kind for it in read]
 
