@@ -82,7 +82,7 @@ stale_mounted has_mounted at numbers image end undamaged = record {
   ends = λ fresh. absurd (cc fresh);
 }
 
--- A record is appended to the log of an image whose current at.sector is known.
+-- A record is appended to the log of an image whose current sector is known.
 pub record Appending (at : CurrentSector) (numbers : List ℕ) (before : FlashState) (page block : ℕ) (held : List ℕ) (valid : Bool) : Type 0 where
   pub shape : HasShape before
   pub stands : StandsAt at.used numbers before.image at.sector at.sequence page (block_value at.used numbers before.image)

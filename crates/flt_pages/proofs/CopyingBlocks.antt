@@ -93,14 +93,14 @@ no_number numbers block apart = false_from_ne_true _ (λ is.
     let found = Any-from_list_any (λ number. number == block) numbers is in
     apart found.0 found.2 (get_or_default numbers found.0 0 found.1 found.2 ∙ found.3 ∙ eqb-true found.1 block found.4))
 
--- The numbers below one are done, and the log of the (1 - at.sector) at.sector ends here.
+-- The numbers below one are done, and the log of the other sector ends here.
 pub record Copying (at : CurrentSector) (numbers : List ℕ) (start now : FlashState) (end from : ℕ) : Type 0 where
   pub on : OnSector start now (1 - at.sector) (sector_at now.image (1 - at.sector))
   pub gates : KeepsGates (sector_at start.image (1 - at.sector)) (sector_at now.image (1 - at.sector))
   pub holds : LogHolds at.used numbers (sector_at now.image (1 - at.sector)) end (copied_below from (held_in at.used numbers (sector_at start.image at.sector)))
   pub room : end ≤ 2 + sum_by (λ n. pages_of (copied_below from (held_in at.used numbers (sector_at start.image at.sector)) n)) numbers
 
--- The places of the numbers below one are in the log of the (1 - at.sector) at.sector, which ends here, and the others are where they were.
+-- The places of the numbers below one are in the log of the other sector, which ends here, and the others are where they were.
 pub record Moves (at : CurrentSector) (numbers : List ℕ) (places : List (Option RecordPlace)) (start now : FlashState) (end from : ℕ) (value : ℕ → Content) : Type 0 where
   pub moved : (k : ℕ) → k < length numbers → get_or numbers k 0 < from → IsAt (sector_at now.image (1 - at.sector)) end (value (get_or numbers k 0)) (get_or places k None)
   pub waits : (k : ℕ) → k < length numbers → from ≤ get_or numbers k 0 → IsAt (sector_at start.image at.sector) at.used (value (get_or numbers k 0)) (get_or places k None)

@@ -154,7 +154,7 @@ module _ (at : CurrentSector) (numbers : List ℕ) (before : FlashState) (shape 
       let left = begin_left at.used (at.sequence + 1) (omega arith) fits next before shape (1 - at.sector) in_other most after fine_there.0 fine_there.1 torn in
       keeps_old after.image left.pages left.image left.gates
 
-  -- The (1 - at.sector) at.sector is begun.
+  -- The other sector is begun.
   module _ (middle : FlashState) (shape_middle : HasShape middle) (begun : middle.image ≡ programmed (erased before.image (1 - at.sector)) (1 - at.sector) 0 start) where
     abbrev first_pages : List (List ℕ)
     first_pages = set (replicate (length (sector_at before.image (1 - at.sector))) blank_page) 0 start
