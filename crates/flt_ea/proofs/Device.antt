@@ -27,12 +27,12 @@ units_on before after units shape = sector_given before after 0 units (omega (ar
 pub record GivesUnit {T : Type 0} (before after : FlashState) (unit : ℕ) (asked : List ℕ) (result : Result T FlashFailed) : Type 0 where
   pub laid : List ℕ
   pub on : OnSector before after 0 (set (sector_at before.image 0) unit laid)
-  pub done : OnOk result (laid ≡ asked)
+  pub holds_asked : OnOk result (laid ≡ asked)
   pub torn : OnErr result (IsTornPage (get_or (sector_at before.image 0) unit []) asked laid)
   pub cause : OnErr result (HasRisenBy 1 before.faults after.faults)
 
 pub unit_laid : {T : Type 0} {before after : FlashState} {unit : ℕ} {asked : List ℕ} {result : Result T FlashFailed} → GivesUnit before after unit asked result → Lays before after 0 unit asked result
-unit_laid is = record { laid = is.laid; on = is.on; done = is.done; cause = is.cause }
+unit_laid is = record { laid = is.laid; on = is.on; holds_asked = is.holds_asked; cause = is.cause }
 
 pub gives_unit : {T : Type 0} (before after : FlashState) (unit : ℕ) (asked : List ℕ) (result : Result T FlashFailed) → HasUnits before → HasUnits after → unit < before.pages
     → OnOk result (after.image ≡ programmed before.image 0 unit asked) → OnErr result (IsTorn before.image (programmed before.image 0 unit asked) after.image) → Operates before after result
@@ -40,7 +40,7 @@ pub gives_unit : {T : Type 0} (before after : FlashState) (unit : ℕ) (asked : 
 gives_unit before after unit asked (Ok x) shape shape_after within done torn does = record {
   laid = asked;
   on = record { image = done; wear = wear_stays before after shape shape_after; runs = one_run does };
-  done = refl;
+  holds_asked = refl;
   torn = tt;
   cause = tt;
 }
@@ -50,7 +50,7 @@ gives_unit before after unit asked (Err e) shape shape_after within done torn do
     record {
       laid = in_page.0;
       on = record { image = in_sector.2 ∙ ap (set before.image 0) in_page.2; wear = wear_stays before after shape shape_after; runs = one_run does };
-      done = tt;
+      holds_asked = tt;
       torn = in_page.1;
       cause = does.cause;
     }

@@ -161,7 +161,7 @@ module _ {device : FlashState} {numbers : List ℕ} {position block : ℕ} {foun
   module _ (last : has_last_sequence found ≡ true) (asked : Content) (size : ℕ) (is_stale has_mounted : Bool) where
     pub spent_changes : Changes (state_by numbers is_stale has_mounted device) (state_by numbers is_stale has_mounted device) block asked size (Err SequenceSpent)
     spent_changes = record {
-      done = tt;
+      holds_asked = tt;
       failed = λ told. absurd (cc told);
       others = λ other differ. refl;
       full = λ live needed told. absurd (cc told);
@@ -234,7 +234,7 @@ module _ {device : FlashState} {numbers : List ℕ} {position block : ℕ} {foun
     whole_value whole = value_now (held_at (next_place found) new) (whole_at whole) ∙ content_given block position units now found stood apart new written put.size put.number put.next put.read whole
 
     pub stored : Stored
-    stored = by_left (subst (λ (p : List (List ℕ)). UnitRecordLeft units p unit new written) now_is put.writes.left)
+    stored = by_left (subst (λ (p : List (List ℕ)). UnitRecordLeft units p unit new written) now_is put.writes.one_of_forms)
       where
         by_left : UnitRecordLeft units now unit new written → Stored
         by_left (inl as_before) = stays (gate_stood block position units now found stood apart as_before)
@@ -270,7 +270,7 @@ module _ {device : FlashState} {numbers : List ℕ} {position block : ℕ} {foun
 
     -- What is there after a write that answered Ok.
     pub whole_now : OnOk result (HoldsRecord now unit new written)
-    whole_now = by_result result put.writes.done
+    whole_now = by_result result put.writes.holds_record
       where
         by_result : (r : Result (Unit {0}) FlashFailed) → OnOk r (HoldsRecord put.writes.units unit new written) → OnOk r (HoldsRecord now unit new written)
         by_result (Ok x) whole = subst (λ (p : List (List ℕ)). HoldsRecord p unit new written) now_is whole

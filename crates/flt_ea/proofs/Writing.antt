@@ -50,12 +50,12 @@ module _ (before : FlashState) (shape : HasUnits before) (unit : ℕ) (gate : Ga
   pub clear_failed : (after : FlashState) (failed : FlashFailed) (result : Result (Unit {0}) FlashFailed) → IsErr result → GivesUnit {T = Unit {0}} before after unit blank_page (Err failed)
       → WritesRecord before after unit gate held result
   clear_failed after failed (Ok x) fails is = absurd (cc fails)
-  clear_failed after failed (Err e) fails is = record { units = set units unit is.laid; on = is.on; apart = set_kept is.laid; done = tt; left = torn_left is.laid is.torn; cause = is.cause }
+  clear_failed after failed (Err e) fails is = record { units = set units unit is.laid; on = is.on; apart = set_kept is.laid; holds_record = tt; one_of_forms = torn_left is.laid is.torn; cause = is.cause }
 
   -- The gate is blank.
   module _ (middle : FlashState) (cleared : GivesUnit {T = Unit {0}} before middle unit blank_page (Ok tt)) where
     on_clear : OnSector before middle 0 (set units unit blank_page)
-    on_clear = subst (λ (l : List ℕ). OnSector before middle 0 (set units unit l)) cleared.done cleared.on
+    on_clear = subst (λ (l : List ℕ). OnSector before middle 0 (set units unit l)) cleared.holds_asked cleared.on
 
     middle_units : sector_at middle.image 0 ≡ set units unit blank_page
     middle_units = units_on before middle (set units unit blank_page) shape on_clear
@@ -113,8 +113,8 @@ module _ (before : FlashState) (shape : HasUnits before) (unit : ℕ) (gate : Ga
       units = is.pages;
       on = on_sector before middle after 0 (set units unit blank_page) is.pages on_clear is.on;
       apart = filled_apart is.pages is.apart;
-      done = tt;
-      left = inr (inl (filled_empty is.pages is.apart));
+      holds_record = tt;
+      one_of_forms = inr (inl (filled_empty is.pages is.apart));
       cause = omega (arith, is.cause, on_clear.runs.counts);
     }
 
@@ -134,15 +134,15 @@ module _ (before : FlashState) (shape : HasUnits before) (unit : ℕ) (gate : Ga
         units = set fills.pages unit is.laid;
         on = on_gate is.laid is.on;
         apart = gated_apart fills.pages fills.apart is.laid;
-        done = stands fills.pages fills.apart is.laid asked word fills.done is.done;
-        left = inr (inr (stands fills.pages fills.apart is.laid asked word fills.done is.done));
+        holds_record = stands fills.pages fills.apart is.laid asked word fills.holds_asked is.holds_asked;
+        one_of_forms = inr (inr (stands fills.pages fills.apart is.laid asked word fills.holds_asked is.holds_asked));
         cause = tt;
       }
       gate_written (Err e) is = record {
         units = set fills.pages unit is.laid;
         on = on_gate is.laid is.on;
         apart = gated_apart fills.pages fills.apart is.laid;
-        done = tt;
-        left = torn_gate fills.pages fills.apart is.laid asked word fills.done (subst (λ (p : List (List ℕ)). IsTornPage (get_or p unit []) asked is.laid) full_units is.torn);
+        holds_record = tt;
+        one_of_forms = torn_gate fills.pages fills.apart is.laid asked word fills.holds_asked (subst (λ (p : List (List ℕ)). IsTornPage (get_or p unit []) asked is.laid) full_units is.torn);
         cause = omega (arith, is.cause, on_full.runs.counts);
       }

@@ -34,6 +34,6 @@ pub record WritesRecord {T : Type 0} (before after : FlashState) (unit : ℕ) (g
   pub units : List (List ℕ)
   pub on : OnSector before after 0 units
   pub apart : KeptApart (sector_at before.image 0) units unit (unit + 5)
-  pub done : OnOk result (HoldsRecord units unit gate held)
-  pub left : UnitRecordLeft (sector_at before.image 0) units unit gate held
+  pub holds_record : OnOk result (HoldsRecord units unit gate held)
+  pub one_of_forms : UnitRecordLeft (sector_at before.image 0) units unit gate held
   pub cause : OnErr result (HasRisenBy 1 before.faults after.faults)

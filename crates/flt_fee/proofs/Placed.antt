@@ -76,7 +76,7 @@ module _ {at : CurrentSector} {numbers : List ℕ} {before : FlashState} {end bl
       (tells_image at.used numbers after.image at.sector at.sequence (end + (2 + byte_pages (length held))) (given block (record_content valid held) (block_value at.used numbers before.image)) (done_standing goes is refl) then_places
       (subst (λ (p : List (List ℕ)). TellsPlaces numbers then_places p (end + (2 + byte_pages (length held))) (given block (record_content valid held) (block_value at.used numbers before.image)))
       (sym (pages_on before after at.sector is.pages goes.shape at.one_of_two is.on))
-      (tells_more (sector_at before.image at.sector) is.pages end block held valid begun goes.proper.3 is.done numbers places then_places (block_value at.used numbers before.image) tells place here noted)))
+      (tells_more (sector_at before.image at.sector) is.pages end block held valid begun goes.proper.3 is.whole numbers places then_places (block_value at.used numbers before.image) tells place here noted)))
 
 -- A valid record at its place has as many bytes as its head says.
 module _ (at : CurrentSector) (numbers : List ℕ) (flash : FlashState) (shape : HasShape flash) (most : at.used ≤ flash.pages) (block : ℕ) (place : RecordPlace) (valid : place.valid ≡ true)

@@ -15,7 +15,7 @@ values_on first second third one two block = two block ∙ one block
 pub changes_on : (first second third : BlocksState) (block : ℕ) (asked : Content) (size : ℕ) (result : Result (Unit {0}) BlockFault) → SameValues first second → NeverFull result
     → Changes second third block asked size result → Changes first third block asked size result
 changes_on first second third block asked size result same never does = record {
-  done = does.done;
+  holds_asked = does.holds_asked;
   failed = λ told. ⊎_elim (λ kept. inl (kept ∙ same block)) (λ changed. inr changed) (does.failed told);
   others = λ other apart. does.others other apart ∙ same other;
   full = λ live needed told. absurd (never.full live needed told);

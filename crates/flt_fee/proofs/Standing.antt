@@ -105,7 +105,7 @@ module _ {at : CurrentSector} {numbers : List ℕ} {before : FlashState} {page b
 
   pub current_stays : current at.used after.image ≡ current at.used before.image
   current_stays =
-      let apart = apart_by is.left in
+      let apart = apart_by is.one_of_forms in
       ap (current at.used) is.on.image ∙ same_current at.used before.image at.sector is.pages page apart.0 (omega (arith, goes.shape.sectors, at.one_of_two))
       (end_least at.used numbers (sector_at before.image at.sector) is.pages goes.stands.holds.entries page at.least goes.stands.holds.is (λ k low lt. apart.1.before k lt)) apart.1
 
@@ -114,9 +114,9 @@ module _ {at : CurrentSector} {numbers : List ℕ} {before : FlashState} {page b
 
   pub left_standing : ((last : ℕ) × StandsAt at.used numbers after.image at.sector at.sequence last value) ⊎ ((last : ℕ) × StandsAt at.used numbers after.image at.sector at.sequence last (given block (record_content valid held) value))
   left_standing = ⊎_elim (λ old. inl (old.0, stands_by old.0 value old.1)) (λ new. inr (new.0, stands_by new.0 (given block (record_content valid held) value) new.1))
-      (left_record at.used numbers (sector_at before.image at.sector) is.pages page value at.least goes.stands.holds block held valid goes.proper (goes.proper.0, goes.proper.2) goes.among goes.room is.left)
+      (left_record at.used numbers (sector_at before.image at.sector) is.pages page value at.least goes.stands.holds block held valid goes.proper (goes.proper.0, goes.proper.2) goes.among goes.room is.one_of_forms)
 
   pub done_standing : (result ≡ Ok tt) → StandsAt at.used numbers after.image at.sector at.sequence (page + (2 + byte_pages (length held))) (given block (record_content valid held) value)
   done_standing ok = stands_by (page + (2 + byte_pages (length held))) (given block (record_content valid held) value)
       (whole_record at.used numbers (sector_at before.image at.sector) is.pages page value at.least goes.stands.holds block held valid goes.proper (goes.proper.0, goes.proper.2) goes.among goes.room
-      (subst (λ (r : Result (Unit {0}) FlashFailed). OnOk r (IsWhole (sector_at before.image at.sector) is.pages page block held valid)) ok is.done))
+      (subst (λ (r : Result (Unit {0}) FlashFailed). OnOk r (IsWhole (sector_at before.image at.sector) is.pages page block held valid)) ok is.whole))

@@ -25,7 +25,7 @@ sound_calls {T} {before} {after} result follows sound cause undamaged = record {
 -- A block was given a content.
 pub changes_done : (before after : BlocksState) (block : ℕ) (asked : Content) (size : ℕ) → after.value block ≡ asked → OthersKept block before after → Changes before after block asked size (Ok tt)
 changes_done before after block asked size is others = record {
-  done = is;
+  holds_asked = is;
   failed = λ told. absurd (cc told);
   others = others;
   full = λ live needed told. absurd (cc told);
@@ -38,7 +38,7 @@ pub changes_failed : (before after : BlocksState) (block : ℕ) (asked : Content
     → (after.value block ≡ before.value block) ⊎ (after.value block ≡ asked) → OthersKept block before after → Changes before after block asked size result
 changes_failed before after block asked size result is either others = subst (λ (r : Result (Unit {0}) BlockFault). Changes before after block asked size r) (sym is)
     (record {
-      done = tt;
+      holds_asked = tt;
       failed = λ told. either;
       others = others;
       full = λ live needed told. absurd (cc told);

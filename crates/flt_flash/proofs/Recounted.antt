@@ -45,7 +45,7 @@ module _ (earlier : ℕ) (failed : Option ℕ) (later : ℕ) (failed_later : Opt
   pub changes_recounted : {block : ℕ} {asked : Content} {size : ℕ} {result : Result (Unit {0}) BlockFault} → Changes before after block asked size result
       → Changes (recounted earlier failed before) (recounted later failed_later after) block asked size result
   changes_recounted changes = record {
-    done = changes.done;
+    holds_asked = changes.holds_asked;
     failed = changes.failed;
     others = changes.others;
     full = λ live needed told. (full_recounted (changes.full live needed told).0, (changes.full live needed told).1);

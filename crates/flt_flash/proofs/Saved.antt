@@ -54,7 +54,7 @@ module _ (before after : Boots) (faults count : ℕ) (added : List PageChange)
         ∙ map_push (power_up_of divided after) before.marks.items (record { faults = faults; changes = count })
         ∙ ap (λ earlier. earlier ++ power_up_of divided after (record { faults = faults; changes = count }) ∷ []) (boots_stay divided)
         ∙ ap (λ (image : List (List ℕ)). boots_of divided before ++ record { faults = faults; image = divided image } ∷ []) (last_pages ∙ is);
-    left = omega (arith, most, ap length marks ∙ length_push before.marks.items (record { faults = faults; changes = count }));
+    one_fewer = omega (arith, most, ap length marks ∙ length_push before.marks.items (record { faults = faults; changes = count }));
     first = first;
     second = second;
   }

@@ -33,7 +33,7 @@ left_of boots = boots.most - length boots.marks.items
 pub record AddsOne (faults : ℕ) (pages : List (List ℕ)) (before after : Boots) : Type 0 where
   pub boots : (divided : List (List ℕ) → List (List (List ℕ)))
       → boots_of divided after ≡ boots_of divided before ++ record { faults = faults; image = divided pages } ∷ []
-  pub left : left_of after ≡ left_of before - 1
+  pub one_fewer : left_of after ≡ left_of before - 1
   pub first : after.first.count ≡ before.first.count
   pub second : after.second.count ≡ before.second.count
 

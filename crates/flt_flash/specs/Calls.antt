@@ -99,7 +99,7 @@ pub record NeverFull {T : Type 0} (result : Result T BlockFault) : Type 0 where
 
 -- A block is given a content that takes a record of this length.
 pub record Changes (before after : BlocksState) (block : ℕ) (asked : Content) (size : ℕ) (result : Result (Unit {0}) BlockFault) : Type 0 where
-  pub done : OnOk result (after.value block ≡ asked)
+  pub holds_asked : OnOk result (after.value block ≡ asked)
   pub failed : IsErrOf result Flash → (after.value block ≡ before.value block) ⊎ (after.value block ≡ asked)
   pub others : OthersKept block before after
   pub full : (live needed : ℕ) → IsErrOf result (Full live needed) → IsFull after size live needed × SameValues before after

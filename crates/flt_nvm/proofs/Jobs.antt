@@ -14,9 +14,9 @@ use Rattle.flt_nvm.specs.Leaves.{FlashTakesThree, Gives, GivesBoth, GivesCopies,
 module _ (block : ℕ) (asked : Content) (size : ℕ) where
   -- One try.
   gives_at_once : (before after : BlocksState) (result : Result (Unit {0}) BlockFault) → Changes before after block asked size result → Gives before after block asked size result
-  gives_at_once before after (Ok x) does = record { done = does.done; either = inr does.done; others = does.others; full = λ live needed told. (does.full live needed told).0; spent = λ told. (does.spent told).0 }
+  gives_at_once before after (Ok x) does = record { holds_asked = does.holds_asked; either = inr does.holds_asked; others = does.others; full = λ live needed told. (does.full live needed told).0; spent = λ told. (does.spent told).0 }
   gives_at_once before after (Err fault) does =
-      record { done = tt; either = by_fault fault does; others = does.others; full = λ live needed told. (does.full live needed told).0; spent = λ told. (does.spent told).0 }
+      record { holds_asked = tt; either = by_fault fault does; others = does.others; full = λ live needed told. (does.full live needed told).0; spent = λ told. (does.spent told).0 }
     where
       by_fault : (fault : BlockFault) → Changes before after block asked size (Err fault) → (after.value block ≡ before.value block) ⊎ (after.value block ≡ asked)
       by_fault Flash does = does.failed refl
@@ -27,7 +27,7 @@ module _ (block : ℕ) (asked : Content) (size : ℕ) where
   -- A try that failed, and then more.
   gives_again : (first second third : BlocksState) (failed result : Result (Unit {0}) BlockFault) → Gives first second block asked size failed → Gives second third block asked size result → Gives first third block asked size result
   gives_again first second third failed result one two = record {
-    done = two.done;
+    holds_asked = two.holds_asked;
     either = ⊎_elim (λ kept. ⊎_elim (λ stood. inl (kept ∙ stood)) (λ changed. inr (kept ∙ changed)) one.either) (λ changed. inr changed) two.either;
     others = λ other apart. two.others other apart ∙ one.others other apart;
     full = two.full;

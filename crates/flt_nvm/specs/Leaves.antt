@@ -32,7 +32,7 @@ HasFailedCopy id after = (after.last_failed ≡ Some (driver_number id 0)) ⊎ (
 
 -- One number holds what was asked after Ok, what it held or what was asked after a fault, and every other what it held.
 pub record Gives (before after : BlocksState) (number : ℕ) (asked : Content) (size : ℕ) (result : Result (Unit {0}) BlockFault) : Type 0 where
-  pub done : OnOk result (after.value number ≡ asked)
+  pub holds_asked : OnOk result (after.value number ≡ asked)
   pub either : IsEither before after number asked
   pub others : OthersKept number before after
   pub full : (live needed : ℕ) → IsErrOf result (Full live needed) → IsFull after size live needed

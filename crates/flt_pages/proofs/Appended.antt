@@ -43,10 +43,10 @@ pub appended : {T : Type 0} (before after : FlashState) (sector page : ℕ) (byt
     → after.wear ≡ before.wear → Operates before after result
     → Appends before after sector page asked result
 appended before after sector page bytes asked (Ok x) shape in_image in_sector blank word done torn wear does =
-    record { done = done; torn = tt; wear = wear; operation = does }
+    record { holds_asked = done; torn = tt; wear = wear; operation = does }
 appended before after sector page bytes asked (Err e) shape in_image in_sector blank word done torn wear does =
     record {
-      done = tt;
+      holds_asked = tt;
       torn = torn_code before.image after.image sector page bytes asked (omega (arith, shape.sectors)) (omega (arith, shape.pages sector in_image)) blank word torn;
       wear = wear;
       operation = does;
@@ -59,10 +59,10 @@ pub appended_piece : {T : Type 0} (before after : FlashState) (sector page : ℕ
     → after.wear ≡ before.wear → Operates before after result
     → AppendsPiece before after sector page asked result
 appended_piece before after sector page asked (Ok x) shape in_image in_sector blank done torn wear does =
-    record { done = done; torn = tt; wear = wear; operation = does }
+    record { holds_asked = done; torn = tt; wear = wear; operation = does }
 appended_piece before after sector page asked (Err e) shape in_image in_sector blank done torn wear does =
     record {
-      done = tt;
+      holds_asked = tt;
       torn = torn_piece before.image after.image sector page asked (omega (arith, shape.sectors)) (omega (arith, shape.pages sector in_image)) blank torn;
       wear = wear;
       operation = does;
@@ -84,7 +84,7 @@ pub failed_to_begin : (before after : FlashState) (sector : ℕ) (asked : List �
     → Operates {T = Unit {0}} before after (Err failed) → BeginsSector before after sector asked result
 failed_to_begin before after sector asked failed (Ok x) fails shape in_image torn wear does = absurd (cc fails)
 failed_to_begin before after sector asked failed (Err e) fails shape in_image torn wear does = record {
-  done = tt;
+  holds_asked = tt;
   torn = inl (torn_erase before.image after.image sector (omega (arith, shape.sectors)) torn);
   wear = wear;
   runs = one_run does;
@@ -96,7 +96,7 @@ pub begun_on : (before middle after : FlashState) (sector : ℕ) (asked : List �
     → middle.image ≡ erased before.image sector → middle.wear ≡ set before.wear sector (counted_up (slice_index before.wear sector))
     → Operates {T = Unit {0}} before middle (Ok tt) → Appends middle after sector 0 asked result → BeginsSector before after sector asked result
 begun_on before middle after sector asked (Ok x) is wear does appends = record {
-  done = subst (λ (image : List (List (List ℕ))). after.image ≡ programmed image sector 0 asked) is appends.done;
+  holds_asked = subst (λ (image : List (List (List ℕ))). after.image ≡ programmed image sector 0 asked) is appends.holds_asked;
   torn = tt;
   wear = appends.wear ∙ wear;
   runs = runs_on (one_run does) (one_run appends.operation);
@@ -104,7 +104,7 @@ begun_on before middle after sector asked (Ok x) is wear does appends = record {
   cause = tt;
 }
 begun_on before middle after sector asked (Err e) is wear does appends = record {
-  done = tt;
+  holds_asked = tt;
   torn = inr (subst (λ (image : List (List (List ℕ))). TornCode image sector 0 asked after.image) is appends.torn);
   wear = appends.wear ∙ wear;
   runs = runs_on (one_run does) (one_run appends.operation);

@@ -59,7 +59,7 @@ module _ (before middle now : FlashState) (shape : HasShape before) (shape_now :
     pages = sector_at now.image other;
     on = on_read;
     apart = record { size = kept_read.size; before = kept_read.before; behind = λ k le. kept_read.behind k (omega (arith, room_bytes, more_bytes)) };
-    done = tt;
+    holds_asked = tt;
     cause = omega (arith, rose, on.runs.counts);
   }
 
@@ -85,7 +85,7 @@ module _ (before middle now : FlashState) (shape : HasShape before) (shape_now :
       let asked : take size page ≡ slice_range bytes (32 * index) (32 * index + min 32 (place.length - 32 * index)) = (λ i. take (sized i) (from i)) ∙ sym piece in
       let fills_read = subst (λ (image : List (List (List ℕ))). Filled (sector_at image other) first bytes index) (sym reads.image) fills in
       piece_laid bytes index (omega (arith, shape.sectors, in_other)) more_bytes on_read kept_read (lays is) (32 * index + min 32 (place.length - 32 * index)) ends
-      (omega (arith, room_bytes, shape.pages other in_other)) fills_read ((lays is).done ∙ ap padded_page asked)
+      (omega (arith, room_bytes, shape.pages other in_other)) fills_read ((lays is).holds_asked ∙ ap padded_page asked)
 
 -- Head, bytes and gate.
 module _ (before : FlashState) (shape : HasShape before) (sector other page block : ℕ) (place : RecordPlace)
@@ -118,7 +118,7 @@ module _ (before : FlashState) (shape : HasShape before) (sector other page bloc
   module _ (middle : FlashState) (shape_middle : HasShape middle) (headed : Appends {T = Unit {0}} before middle other page head (Ok tt)) where
     same_source : record_bytes_at (sector_at middle.image sector) place ≡ record_bytes_at (sector_at before.image sector) place
     same_source = ap (λ (pages : List (List ℕ)). record_bytes_at pages place)
-        (other_stays before middle sector other (set (sector_at before.image other) page head) apart (record { image = headed.done; wear = headed.wear; runs = one_run headed.operation }))
+        (other_stays before middle sector other (set (sector_at before.image other) page head) apart (record { image = headed.holds_asked; wear = headed.wear; runs = one_run headed.operation }))
 
     fills_of : {T : Type 0} (after : FlashState) (result : Result T FlashFailed) → Fills middle after other (page + 1) (record_bytes_at (sector_at middle.image sector) place) result
         → Fills middle after other (page + 1) (record_bytes_at (sector_at before.image sector) place) result

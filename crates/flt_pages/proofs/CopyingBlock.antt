@@ -112,10 +112,10 @@ module _ (at : CurrentSector) (numbers : List ℕ) (before : FlashState) (shape 
 
     module _ (after : FlashState) (result : Result (Unit {0}) FlashFailed) (does : Records before after (1 - at.sector) end number (record_bytes_at (sector_at before.image at.sector) place) place.valid result) where
       gates_of_both : KeepsGates (sector_at before.image (1 - at.sector)) does.pages
-      gates_of_both = left_gates (sector_at before.image (1 - at.sector)) does.pages end number (record_bytes_at (sector_at before.image at.sector) place) place.valid begun does.left
+      gates_of_both = left_gates (sector_at before.image (1 - at.sector)) does.pages end number (record_bytes_at (sector_at before.image at.sector) place) place.valid begun does.one_of_forms
 
       stays_below : (k : ℕ) → k < end → get_or does.pages k [] ≡ get_or (sector_at before.image (1 - at.sector)) k []
-      stays_below k lt = (left_apart (sector_at before.image (1 - at.sector)) does.pages end number (record_bytes_at (sector_at before.image at.sector) place) place.valid does.left).1.before k lt
+      stays_below k lt = (left_apart (sector_at before.image (1 - at.sector)) does.pages end number (record_bytes_at (sector_at before.image at.sector) place) place.valid does.one_of_forms).1.before k lt
 
       pub block_torn : (told : Result ℕ FlashFailed) → IsErr told → HasRisenBy 1 before.faults after.faults → CopiesBlock before after at numbers number end told
       block_torn (Ok x) fails rose = absurd (cc fails)
@@ -124,7 +124,7 @@ module _ (at : CurrentSector) (numbers : List ℕ) (before : FlashState) (shape 
 
       module _ (last : ℕ) (ok : result ≡ Ok tt) (ends : last ≡ end + (2 + byte_pages place.length)) where
         whole : IsWhole (sector_at before.image (1 - at.sector)) does.pages end number (record_bytes_at (sector_at before.image at.sector) place) place.valid
-        whole = subst (λ (r : Result (Unit {0}) FlashFailed). OnOk r (IsWhole (sector_at before.image (1 - at.sector)) does.pages end number (record_bytes_at (sector_at before.image at.sector) place) place.valid)) ok does.done
+        whole = subst (λ (r : Result (Unit {0}) FlashFailed). OnOk r (IsWhole (sector_at before.image (1 - at.sector)) does.pages end number (record_bytes_at (sector_at before.image at.sector) place) place.valid)) ok does.whole
 
         far : end + (2 + byte_pages (length (record_bytes_at (sector_at before.image at.sector) place))) ≡ last
         far = omega (arith, size, ends)

@@ -17,12 +17,12 @@ use Rattle.flt_pages.proofs.Recording.{on_sector, sector_given}
 pub record Lays {T : Type 0} (before after : FlashState) (sector page : ℕ) (asked : List ℕ) (result : Result T FlashFailed) : Type 0 where
   pub laid : List ℕ
   pub on : OnSector before after sector (set (sector_at before.image sector) page laid)
-  pub done : OnOk result (laid ≡ asked)
+  pub holds_asked : OnOk result (laid ≡ asked)
   pub cause : OnErr result (HasRisenBy 1 before.faults after.faults)
 
 pub lays : {T : Type 0} {before after : FlashState} {sector page : ℕ} {asked : List ℕ} {result : Result T FlashFailed} → AppendsPiece before after sector page asked result → Lays before after sector page asked result
-lays {result = Ok x} is = record { laid = _; on = record { image = is.done; wear = is.wear; runs = one_run is.operation }; done = refl; cause = tt }
-lays {result = Err e} is = record { laid = is.torn.torn; on = record { image = is.torn.only; wear = is.wear; runs = one_run is.operation }; done = tt; cause = is.operation.cause }
+lays {result = Ok x} is = record { laid = _; on = record { image = is.holds_asked; wear = is.wear; runs = one_run is.operation }; holds_asked = refl; cause = tt }
+lays {result = Err e} is = record { laid = is.torn.torn; on = record { image = is.torn.only; wear = is.wear; runs = one_run is.operation }; holds_asked = tt; cause = is.operation.cause }
 
 -- The pages of plain bytes so far.
 pub record FillsUpTo (before now : FlashState) (sector first : ℕ) (bytes : List ℕ) (index : ℕ) : Type 0 where
@@ -54,7 +54,7 @@ module _ {before now after : FlashState} {sector first : ℕ} (bytes : List ℕ)
     pages = longer;
     on = on_longer;
     apart = wider (sector_at before.image sector) longer first (first + (index + 1)) first (first + byte_pages (length bytes)) (omega arith) (omega arith) apart_longer;
-    done = tt;
+    holds_asked = tt;
     cause = omega (arith, rose, on.runs.counts);
   }
 

@@ -51,13 +51,13 @@ pages_on before after sector pages shape within = sector_given before after sect
 pub record Laid {T : Type 0} (before after : FlashState) (sector page : ℕ) (asked : List ℕ) (result : Result T FlashFailed) : Type 0 where
   pub laid : List ℕ
   pub on : OnSector before after sector (set (sector_at before.image sector) page laid)
-  pub done : OnOk result (laid ≡ asked)
+  pub holds_asked : OnOk result (laid ≡ asked)
   pub word : (laid ≡ asked) ⊎ (unsealed laid ≡ None)
   pub cause : OnErr result (HasRisenBy 1 before.faults after.faults)
 
 pub laid_by : {T : Type 0} (before after : FlashState) (sector page : ℕ) (asked : List ℕ) (result : Result T FlashFailed) → Appends before after sector page asked result → Laid before after sector page asked result
-laid_by before after sector page asked (Ok x) is = record { laid = asked; on = record { image = is.done; wear = is.wear; runs = one_run is.operation }; done = refl; word = inl refl; cause = tt }
-laid_by before after sector page asked (Err e) is = record { laid = is.torn.torn; on = record { image = is.torn.only; wear = is.wear; runs = one_run is.operation }; done = tt; word = is.torn.word; cause = is.operation.cause }
+laid_by before after sector page asked (Ok x) is = record { laid = asked; on = record { image = is.holds_asked; wear = is.wear; runs = one_run is.operation }; holds_asked = refl; word = inl refl; cause = tt }
+laid_by before after sector page asked (Err e) is = record { laid = is.torn.torn; on = record { image = is.torn.only; wear = is.wear; runs = one_run is.operation }; holds_asked = tt; word = is.torn.word; cause = is.operation.cause }
 
 module _ (before : FlashState) (shape : HasShape before) (sector page block : ℕ) (bytes : List ℕ) (valid : Bool) (within : sector < 2) (room : page + 2 + byte_pages (length bytes) ≤ before.pages)
     (blank : AreBlank (sector_at before.image sector) page (page + 2 + byte_pages (length bytes))) where
@@ -82,12 +82,12 @@ module _ (before : FlashState) (shape : HasShape before) (sector page block : �
   head_failed after failed (Ok x) fails is = absurd (cc fails)
   head_failed after failed (Err e) fails is =
       let laid = laid_by before after sector page head (Err failed) is in
-      record { pages = set pages page laid.laid; on = laid.on; done = tt; left = head_left laid.laid laid.word; cause = is.operation.cause }
+      record { pages = set pages page laid.laid; on = laid.on; whole = tt; one_of_forms = head_left laid.laid laid.word; cause = is.operation.cause }
 
   -- The head is whole.
   module _ (middle : FlashState) (shape_middle : HasShape middle) (headed : Appends {T = Unit {0}} before middle sector page head (Ok tt)) where
     on_head : OnSector before middle sector (set pages page head)
-    on_head = record { image = headed.done; wear = headed.wear; runs = one_run headed.operation }
+    on_head = record { image = headed.holds_asked; wear = headed.wear; runs = one_run headed.operation }
 
     opened : IsOpen pages (sector_at middle.image sector) page block (length bytes) valid
     opened = subst (λ (p : List (List ℕ)). IsOpen pages p page block (length bytes) valid) (sym (pages_on before middle sector (set pages page head) shape within on_head)) (head_stands pages page block bytes valid fits blank)
@@ -115,8 +115,8 @@ module _ (before : FlashState) (shape : HasShape before) (sector page block : �
     fill_failed after failed (Err e) fails is = record {
       pages = is.pages;
       on = on_sector before middle after sector (set pages page head) is.pages on_head is.on;
-      done = tt;
-      left = inr (inl (filled is.pages is.apart));
+      whole = tt;
+      one_of_forms = inr (inl (filled is.pages is.apart));
       cause = omega (arith, is.cause, headed.operation.counts);
     }
 
@@ -130,15 +130,15 @@ module _ (before : FlashState) (shape : HasShape before) (sector page block : �
         record {
           pages = set is.pages (page + 1 + byte_pages (length bytes)) laid.laid;
           on = on_sector before full after sector is.pages (set is.pages (page + 1 + byte_pages (length bytes)) laid.laid) on_full on_gate;
-          done = whole result laid.laid is laid.done;
-          left = ⊎_elim (λ stands. inr (inr (gate_stands pages page block bytes valid fits is.pages (filled is.pages is.apart) laid.laid stands is.done)))
+          whole = whole result laid.laid is laid.holds_asked;
+          one_of_forms = ⊎_elim (λ stands. inr (inr (gate_stands pages page block bytes valid fits is.pages (filled is.pages is.apart) laid.laid stands is.holds_asked)))
               (λ none. inr (inl (gate_torn pages page block bytes valid fits is.pages (filled is.pages is.apart) laid.laid none))) laid.word;
           cause = rises result laid.cause on_full;
         }
       where
         whole : (result : Result (Unit {0}) FlashFailed) (laid : List ℕ) (is : Fills {T = Unit {0}} middle full sector (page + 1) bytes (Ok tt)) → OnOk result (laid ≡ gate)
             → OnOk result (IsWhole pages (set is.pages (page + 1 + byte_pages (length bytes)) laid) page block bytes valid)
-        whole (Ok x) laid is stands = gate_stands pages page block bytes valid fits is.pages (filled is.pages is.apart) laid stands is.done
+        whole (Ok x) laid is stands = gate_stands pages page block bytes valid fits is.pages (filled is.pages is.apart) laid stands is.holds_asked
         whole (Err e) laid is stands = tt
 
         rises : (result : Result (Unit {0}) FlashFailed) → OnErr result (HasRisenBy 1 full.faults after.faults) → OnSector before full sector is.pages → OnErr result (HasRisenBy 1 before.faults after.faults)

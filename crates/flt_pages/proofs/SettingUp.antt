@@ -81,13 +81,13 @@ module _ (used : ℕ) (least : 4 ≤ used) (fits : used < 2 ^ 16) (before : Flas
         }
 
     pub activated_fresh : (after : FlashState) (result : Result (Unit {0}) FlashFailed) → Appends middle after 0 1 active result → HoldsNothing used after.image
-    activated_fresh after (Ok x) is = inr (fresh_by after is.done)
+    activated_fresh after (Ok x) is = inr (fresh_by after is.holds_asked)
     activated_fresh after (Err e) is = ⊎_elim
         (λ whole. inr (fresh_by after (is.torn.only ∙ ap (programmed middle.image 0 1) whole)))
         (λ gone. inl (ap (current used) (is.torn.only ∙ laid is.torn.torn) ∙ current_is (set pages 1 is.torn.torn) None (not_active used 1 fits (omega arith) pages room stands is.torn.torn is.torn.unspoiled gone))) is.torn.word
 
     pub done_fresh : (after : FlashState) (result : Result (Unit {0}) FlashFailed) → Appends middle after 0 1 active result → OnOk result (IsFresh used after.image)
-    done_fresh after (Ok x) is = fresh_by after is.done
+    done_fresh after (Ok x) is = fresh_by after is.holds_asked
     done_fresh after (Err e) is = tt
 
 pub wear_on : {fact : Type 0} (result : Result (Unit {0}) FlashFailed) → fact → OnOk result fact

@@ -227,7 +227,7 @@ module _ (at : CurrentSector) (numbers : List ℕ) (before : FlashState) (shape 
 
       pub activation_left : (end : ℕ) → LogHolds at.used numbers pages end (held_in at.used numbers (sector_at before.image at.sector)) → (after : FlashState) (result : Result (Unit {0}) FlashFailed)
           → Appends full after (1 - at.sector) 1 active result → GivesValues at.used numbers after.image (held_in at.used numbers (sector_at before.image at.sector))
-      activation_left end holds after (Ok x) is = record { sector = 1 - at.sector; sequence = at.sequence + 1; end = end; stands = goes_over end holds after is.done }
+      activation_left end holds after (Ok x) is = record { sector = 1 - at.sector; sequence = at.sequence + 1; end = end; stands = goes_over end holds after is.holds_asked }
       activation_left end holds after (Err e) is = ⊎_elim
           (λ whole. record { sector = 1 - at.sector; sequence = at.sequence + 1; end = end; stands = goes_over end holds after (is.torn.only ∙ ap (programmed full.image (1 - at.sector) 1) whole) })
           (λ gone. keeps_old after.image (set pages 1 is.torn.torn) (is.torn.only ∙ laid is.torn.torn) (inr (not_active at.used (at.sequence + 1) fits next pages room stands is.torn.torn is.torn.unspoiled gone))) is.torn.word

@@ -17,7 +17,7 @@ pub record TornCode (before : List (List (List ℕ))) (sector page : ℕ) (asked
 
 -- A code word is programmed on a blank page: after Ok it is there, and else it is torn.
 pub record Appends {T : Type 0} (before after : FlashState) (sector page : ℕ) (asked : List ℕ) (result : Result T FlashFailed) : Type 0 where
-  pub done : OnOk result (after.image ≡ programmed before.image sector page asked)
+  pub holds_asked : OnOk result (after.image ≡ programmed before.image sector page asked)
   pub torn : OnErr result (TornCode before.image sector page asked after.image)
   pub wear : after.wear ≡ before.wear
   pub operation : Operates before after result
@@ -34,7 +34,7 @@ pub record TornPiece (before : List (List (List ℕ))) (sector page : ℕ) (aske
 
 -- Plain bytes are programmed on a blank page: after Ok they are there, and else they are torn.
 pub record AppendsPiece {T : Type 0} (before after : FlashState) (sector page : ℕ) (asked : List ℕ) (result : Result T FlashFailed) : Type 0 where
-  pub done : OnOk result (after.image ≡ programmed before.image sector page asked)
+  pub holds_asked : OnOk result (after.image ≡ programmed before.image sector page asked)
   pub torn : OnErr result (TornPiece before.image sector page asked after.image)
   pub wear : after.wear ≡ before.wear
   pub operation : Operates before after result
@@ -47,7 +47,7 @@ pub record TornErase (before : List (List (List ℕ))) (sector : ℕ) (after : L
 
 -- A sector is erased and its start gate programmed: after Ok the rest of it is blank, and else the erase or the program is torn.
 pub record BeginsSector {T : Type 0} (before after : FlashState) (sector : ℕ) (asked : List ℕ) (result : Result T FlashFailed) : Type 0 where
-  pub done : OnOk result (after.image ≡ programmed (erased before.image sector) sector 0 asked)
+  pub holds_asked : OnOk result (after.image ≡ programmed (erased before.image sector) sector 0 asked)
   pub torn : OnErr result (TornErase before.image sector after.image ⊎ TornCode (erased before.image sector) sector 0 asked after.image)
   pub wear : after.wear ≡ slice_set before.wear sector (counted_up (slice_index before.wear sector))
   pub runs : MakesOperations before after

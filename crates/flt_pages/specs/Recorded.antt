@@ -18,7 +18,7 @@ pub record Fills {T : Type 0} (before after : FlashState) (sector first : ℕ) (
   pub pages : List (List ℕ)
   pub on : OnSector before after sector pages
   pub apart : KeptApart (sector_at before.image sector) pages first (first + byte_pages (length bytes))
-  pub done : OnOk result (flat_map (λ page. page) (slice_range pages first (first + byte_pages (length bytes))) ≡ on_pages bytes)
+  pub holds_asked : OnOk result (flat_map (λ page. page) (slice_range pages first (first + byte_pages (length bytes))) ≡ on_pages bytes)
   pub cause : OnErr result (HasRisenBy 1 before.faults after.faults)
 
 -- A record at this page: whole after Ok, and else whole, without its gate, or a torn head.
@@ -26,6 +26,6 @@ pub record Records {T : Type 0} (before after : FlashState) (sector page block :
     (result : Result T FlashFailed) : Type 0 where
   pub pages : List (List ℕ)
   pub on : OnSector before after sector pages
-  pub done : OnOk result (IsWhole (sector_at before.image sector) pages page block bytes valid)
-  pub left : RecordLeft (sector_at before.image sector) pages page block bytes valid
+  pub whole : OnOk result (IsWhole (sector_at before.image sector) pages page block bytes valid)
+  pub one_of_forms : RecordLeft (sector_at before.image sector) pages page block bytes valid
   pub cause : OnErr result (HasRisenBy 1 before.faults after.faults)

@@ -26,5 +26,5 @@ loop-index-preserved g c =
     let gives = gives_unit now (g.E.Eeprom.state c.write_unit.new.self) (c.args.first + c.loop-index.index) c.fill_up.result (Ok tt) (g.met.E.Eeprom.shape c.loop-index.device) (g.met.E.Eeprom.shape c.write_unit.new.self) fits
     c.in_ok-write_unit.ensures.written c.in_ok-write_unit.ensures.torn c.in_ok-write_unit.ensures.operation in
     let step = piece_laid c.args.bytes.now c.loop-index.index (omega (arith, shape.one)) more c.loop-index.invariant.on c.loop-index.invariant.apart (unit_laid gives)
-    c.if-start-bytes.end ends (omega (arith, shape.units, c.requires.room)) c.loop-index.invariant.filled ((unit_laid gives).done ∙ c.fill_up.ensures) in
+    c.if-start-bytes.end ends (omega (arith, shape.units, c.requires.room)) c.loop-index.invariant.filled ((unit_laid gives).holds_asked ∙ c.fill_up.ensures) in
     record { on = step.on; apart = step.apart; filled = step.filled; operations = omega (arith, c.in_ok-write_unit.ensures.operation.operations, c.loop-index.invariant.operations) }

@@ -47,7 +47,7 @@ returns-clause-fills g c =
       pages = sector_at now.image c.args.other;
       on = c.loop-index.invariant.on;
       apart = record { size = kept.size; before = kept.before; behind = λ k le. kept.behind k (omega (arith, le, last)) };
-      done = filled_all (sector_at now.image c.args.other) c.args.first bytes c.loop-index.index last c.loop-index.invariant.filled;
+      holds_asked = filled_all (sector_at now.image c.args.other) c.args.first bytes c.loop-index.index last c.loop-index.invariant.filled;
       cause = tt;
     }
 

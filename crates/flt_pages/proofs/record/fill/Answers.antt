@@ -22,7 +22,7 @@ loop-index-preserved g c =
     elim c.if-start-bytes.branch [ then-start-bytes w ↦ inl (omega arith) | else-start-bytes w ↦ inr (omega arith, omega arith) ] in
     let appends = c.in_ok-append_piece.ensures.appends in
     let step = piece_laid c.args.bytes.now c.loop-index.index (omega (arith, shape.sectors, c.requires.sector)) more c.loop-index.invariant.on c.loop-index.invariant.apart (lays appends)
-    c.if-start-bytes.end ends (omega (arith, shape.pages c.args.sector c.requires.sector, c.requires.room)) c.loop-index.invariant.filled (lays appends).done in
+    c.if-start-bytes.end ends (omega (arith, shape.pages c.args.sector c.requires.sector, c.requires.room)) c.loop-index.invariant.filled (lays appends).holds_asked in
     record { on = step.on; apart = step.apart; filled = step.filled; operations = omega (arith, appends.operation.operations, c.loop-index.invariant.operations) }
 
 pub overflow_add-first : goal.overflow_add-first
@@ -48,7 +48,7 @@ returns-clause-fills g c =
       pages = pages;
       on = c.loop-index.invariant.on;
       apart = record { size = kept.size; before = kept.before; behind = λ k le. kept.behind k (omega (arith, le, last)) };
-      done = filled_all pages c.args.first c.args.bytes.now c.loop-index.index last c.loop-index.invariant.filled;
+      holds_asked = filled_all pages c.args.first c.args.bytes.now c.loop-index.index last c.loop-index.invariant.filled;
       cause = tt;
     }
 

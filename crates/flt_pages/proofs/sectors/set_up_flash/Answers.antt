@@ -12,12 +12,12 @@ returns-in_err-begin-clause-holds_nothing g c =
 pub returns-clause-fresh : goal.returns-clause-fresh
 returns-clause-fresh g c =
     done_fresh c.args.used c.requires.least (omega arith) (g.F.Flash.state c.args.flash.now) (g.met.F.Flash.shape c.args.flash.now) c.requires.most c.requires.none
-    (g.F.Flash.state c.begin.new.flash) c.in_ok-begin.ensures.begins.done (g.F.Flash.state c.activate.new.flash) c.activate.result c.activate.ensures.appends
+    (g.F.Flash.state c.begin.new.flash) c.in_ok-begin.ensures.begins.holds_asked (g.F.Flash.state c.activate.new.flash) c.activate.result c.activate.ensures.appends
 
 pub returns-clause-holds_nothing : goal.returns-clause-holds_nothing
 returns-clause-holds_nothing g c =
     activated_fresh c.args.used c.requires.least (omega arith) (g.F.Flash.state c.args.flash.now) (g.met.F.Flash.shape c.args.flash.now) c.requires.most c.requires.none
-    (g.F.Flash.state c.begin.new.flash) c.in_ok-begin.ensures.begins.done (g.F.Flash.state c.activate.new.flash) c.activate.result c.activate.ensures.appends
+    (g.F.Flash.state c.begin.new.flash) c.in_ok-begin.ensures.begins.holds_asked (g.F.Flash.state c.activate.new.flash) c.activate.result c.activate.ensures.appends
 
 pub returns-clause-wear : goal.returns-clause-wear
 returns-clause-wear g c = wear_on c.activate.result (c.activate.ensures.appends.wear ∙ c.in_ok-begin.ensures.begins.wear)

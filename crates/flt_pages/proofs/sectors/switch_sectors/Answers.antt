@@ -16,29 +16,29 @@ returns-in_err-begin-clause-values g c =
 pub copy_blocks-requires-clause-other : goal.copy_blocks-requires-clause-other
 copy_blocks-requires-clause-other g c =
     begun_blank c.args.at c.args.numbers.now (g.F.Flash.state c.args.flash.now) (g.met.F.Flash.shape c.args.flash.now) c.requires.can.least (omega arith) c.requires.can.source.log.most
-    c.requires.can.current c.requires.can.source.log.sound c.requires.can.next (g.F.Flash.state c.begin.new.flash) (g.met.F.Flash.shape c.begin.new.flash) c.in_ok-begin.ensures.begins.done
+    c.requires.can.current c.requires.can.source.log.sound c.requires.can.next (g.F.Flash.state c.begin.new.flash) (g.met.F.Flash.shape c.begin.new.flash) c.in_ok-begin.ensures.begins.holds_asked
 
 pub returns-in_err-end-clause-values : goal.returns-in_err-end-clause-values
 returns-in_err-end-clause-values g c =
     let copies = c.in_err-end.ensures.copies in
     keeps_inactive c.args.at c.args.numbers.now (g.F.Flash.state c.args.flash.now) (g.met.F.Flash.shape c.args.flash.now) c.requires.can.least (omega arith) c.requires.can.source.log.most
-    c.requires.can.current c.requires.can.source.log.sound c.requires.can.next (g.F.Flash.state c.begin.new.flash) (g.met.F.Flash.shape c.begin.new.flash) c.in_ok-begin.ensures.begins.done
+    c.requires.can.current c.requires.can.source.log.sound c.requires.can.next (g.F.Flash.state c.begin.new.flash) (g.met.F.Flash.shape c.begin.new.flash) c.in_ok-begin.ensures.begins.holds_asked
     (g.F.Flash.state c.copy_blocks.new.flash) copies.written.pages copies.written.on copies.written.gates
 
 pub activate-requires-clause-blank : goal.activate-requires-clause-blank
 activate-requires-clause-blank g c =
     let copies = c.in_ok-end.ensures.copies in
     active_blank c.args.at c.args.numbers.now (g.F.Flash.state c.args.flash.now) (g.met.F.Flash.shape c.args.flash.now) c.requires.can.least (omega arith) c.requires.can.source.log.most
-    c.requires.can.current c.requires.can.source.log.sound c.requires.can.next (g.F.Flash.state c.begin.new.flash) (g.met.F.Flash.shape c.begin.new.flash) c.in_ok-begin.ensures.begins.done
+    c.requires.can.current c.requires.can.source.log.sound c.requires.can.next (g.F.Flash.state c.begin.new.flash) (g.met.F.Flash.shape c.begin.new.flash) c.in_ok-begin.ensures.begins.holds_asked
     (g.F.Flash.state c.copy_blocks.new.flash) copies.written.pages copies.written.on copies.written.gates
 
 pub returns-in_err-activate-clause-values : goal.returns-in_err-activate-clause-values
 returns-in_err-activate-clause-values g c =
     let copies = c.in_ok-end.ensures.copies in
     let source = source_stays c.args.at c.args.numbers.now (g.F.Flash.state c.args.flash.now) (g.met.F.Flash.shape c.args.flash.now) c.requires.can.least (omega arith) c.requires.can.source.log.most
-    c.requires.can.current c.requires.can.source.log.sound c.requires.can.next (g.F.Flash.state c.begin.new.flash) (g.met.F.Flash.shape c.begin.new.flash) c.in_ok-begin.ensures.begins.done in
+    c.requires.can.current c.requires.can.source.log.sound c.requires.can.next (g.F.Flash.state c.begin.new.flash) (g.met.F.Flash.shape c.begin.new.flash) c.in_ok-begin.ensures.begins.holds_asked in
     activation_left c.args.at c.args.numbers.now (g.F.Flash.state c.args.flash.now) (g.met.F.Flash.shape c.args.flash.now) c.requires.can.least (omega arith) c.requires.can.source.log.most
-    c.requires.can.current c.requires.can.source.log.sound c.requires.can.next (g.F.Flash.state c.begin.new.flash) (g.met.F.Flash.shape c.begin.new.flash) c.in_ok-begin.ensures.begins.done
+    c.requires.can.current c.requires.can.source.log.sound c.requires.can.next (g.F.Flash.state c.begin.new.flash) (g.met.F.Flash.shape c.begin.new.flash) c.in_ok-begin.ensures.begins.holds_asked
     (g.F.Flash.state c.copy_blocks.new.flash) copies.written.pages copies.written.on copies.written.gates c.in_ok-end.end
     (subst (λ (p : List (List ℕ)). LogHolds c.args.at.used c.args.numbers.now copies.written.pages c.in_ok-end.end (held_in c.args.at.used c.args.numbers.now p)) source copies.holds)
     (g.F.Flash.state c.activate.new.flash) c.activate.result c.activate.ensures.appends
@@ -47,18 +47,18 @@ pub returns-clause-switched : goal.returns-clause-switched
 returns-clause-switched g c =
     let copies = c.in_ok-end.ensures.copies in
     let source = source_stays c.args.at c.args.numbers.now (g.F.Flash.state c.args.flash.now) (g.met.F.Flash.shape c.args.flash.now) c.requires.can.least (omega arith) c.requires.can.source.log.most
-    c.requires.can.current c.requires.can.source.log.sound c.requires.can.next (g.F.Flash.state c.begin.new.flash) (g.met.F.Flash.shape c.begin.new.flash) c.in_ok-begin.ensures.begins.done in
+    c.requires.can.current c.requires.can.source.log.sound c.requires.can.next (g.F.Flash.state c.begin.new.flash) (g.met.F.Flash.shape c.begin.new.flash) c.in_ok-begin.ensures.begins.holds_asked in
     let room = subst (λ (p : List (List ℕ)). c.in_ok-end.end ≤ 2 + current_pages c.args.at.used c.args.numbers.now p) source copies.room in
     record {
       stands = goes_over c.args.at c.args.numbers.now (g.F.Flash.state c.args.flash.now) (g.met.F.Flash.shape c.args.flash.now) c.requires.can.least (omega arith) c.requires.can.source.log.most
-          c.requires.can.current c.requires.can.source.log.sound c.requires.can.next (g.F.Flash.state c.begin.new.flash) (g.met.F.Flash.shape c.begin.new.flash) c.in_ok-begin.ensures.begins.done
+          c.requires.can.current c.requires.can.source.log.sound c.requires.can.next (g.F.Flash.state c.begin.new.flash) (g.met.F.Flash.shape c.begin.new.flash) c.in_ok-begin.ensures.begins.holds_asked
           (g.F.Flash.state c.copy_blocks.new.flash) copies.written.pages copies.written.on copies.written.gates c.in_ok-end.end
           (subst (λ (p : List (List ℕ)). LogHolds c.args.at.used c.args.numbers.now copies.written.pages c.in_ok-end.end (held_in c.args.at.used c.args.numbers.now p)) source copies.holds)
-          (g.F.Flash.state c.activate.new.flash) c.in_ok-activate.ensures.appends.done;
+          (g.F.Flash.state c.activate.new.flash) c.in_ok-activate.ensures.appends.holds_asked;
       table = table_over c.args.at c.args.numbers.now (g.F.Flash.state c.args.flash.now) (g.met.F.Flash.shape c.args.flash.now) c.requires.can.least (omega arith) c.requires.can.source.log.most
-          c.requires.can.current c.requires.can.source.log.sound c.requires.can.next (g.F.Flash.state c.begin.new.flash) (g.met.F.Flash.shape c.begin.new.flash) c.in_ok-begin.ensures.begins.done
+          c.requires.can.current c.requires.can.source.log.sound c.requires.can.next (g.F.Flash.state c.begin.new.flash) (g.met.F.Flash.shape c.begin.new.flash) c.in_ok-begin.ensures.begins.holds_asked
           (g.F.Flash.state c.copy_blocks.new.flash) copies.written.pages copies.written.on copies.written.gates c.in_ok-end.end c.copy_blocks.new.places c.in_ok-end.ensures.table
-          (g.F.Flash.state c.activate.new.flash) c.in_ok-activate.ensures.appends.done;
+          (g.F.Flash.state c.activate.new.flash) c.in_ok-activate.ensures.appends.holds_asked;
       moves = record {
         room = room;
         erases = record {
@@ -72,9 +72,9 @@ pub returns-clause-values : goal.returns-clause-values
 returns-clause-values g c =
     let copies = c.in_ok-end.ensures.copies in
     let source = source_stays c.args.at c.args.numbers.now (g.F.Flash.state c.args.flash.now) (g.met.F.Flash.shape c.args.flash.now) c.requires.can.least (omega arith) c.requires.can.source.log.most
-    c.requires.can.current c.requires.can.source.log.sound c.requires.can.next (g.F.Flash.state c.begin.new.flash) (g.met.F.Flash.shape c.begin.new.flash) c.in_ok-begin.ensures.begins.done in
+    c.requires.can.current c.requires.can.source.log.sound c.requires.can.next (g.F.Flash.state c.begin.new.flash) (g.met.F.Flash.shape c.begin.new.flash) c.in_ok-begin.ensures.begins.holds_asked in
     activation_left c.args.at c.args.numbers.now (g.F.Flash.state c.args.flash.now) (g.met.F.Flash.shape c.args.flash.now) c.requires.can.least (omega arith) c.requires.can.source.log.most
-    c.requires.can.current c.requires.can.source.log.sound c.requires.can.next (g.F.Flash.state c.begin.new.flash) (g.met.F.Flash.shape c.begin.new.flash) c.in_ok-begin.ensures.begins.done
+    c.requires.can.current c.requires.can.source.log.sound c.requires.can.next (g.F.Flash.state c.begin.new.flash) (g.met.F.Flash.shape c.begin.new.flash) c.in_ok-begin.ensures.begins.holds_asked
     (g.F.Flash.state c.copy_blocks.new.flash) copies.written.pages copies.written.on copies.written.gates c.in_ok-end.end
     (subst (λ (p : List (List ℕ)). LogHolds c.args.at.used c.args.numbers.now copies.written.pages c.in_ok-end.end (held_in c.args.at.used c.args.numbers.now p)) source copies.holds)
     (g.F.Flash.state c.activate.new.flash) c.activate.result c.activate.ensures.appends
@@ -85,7 +85,7 @@ returns-clause-runs g c = runs_on c.in_ok-begin.ensures.begins.runs (runs_on c.i
 pub copy_blocks-requires-clause-source : goal.copy_blocks-requires-clause-source
 copy_blocks-requires-clause-source g c =
     let source = source_stays c.args.at c.args.numbers.now (g.F.Flash.state c.args.flash.now) (g.met.F.Flash.shape c.args.flash.now) c.requires.can.least (omega arith) c.requires.can.source.log.most
-    c.requires.can.current c.requires.can.source.log.sound c.requires.can.next (g.F.Flash.state c.begin.new.flash) (g.met.F.Flash.shape c.begin.new.flash) c.in_ok-begin.ensures.begins.done in
+    c.requires.can.current c.requires.can.source.log.sound c.requires.can.next (g.F.Flash.state c.begin.new.flash) (g.met.F.Flash.shape c.begin.new.flash) c.in_ok-begin.ensures.begins.holds_asked in
     record {
       log = record {
         most = omega (arith, c.in_ok-begin.ensures.begins.runs.pages, c.requires.can.source.log.most);

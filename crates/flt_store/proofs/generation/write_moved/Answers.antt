@@ -38,7 +38,7 @@ pub returns-then-is_written-clause-written : goal.returns-then-is_written-clause
 returns-then-is_written-clause-written g c =
     let after = driver_of c.write.new.self in
     let gives = part_alone _ c.requires.table c.args.id c.requires.first c.requires.end _ _ c.write.ensures.gives in
-    on_ok c.write.result (λ is written. ap (λ (index : ℕ). after.value (number_of c.args.id index)) (sym c.index_of.ensures) ∙ is ∙ ap bytes c.get.ensures) gives.done
+    on_ok c.write.result (λ is written. ap (λ (index : ℕ). after.value (number_of c.args.id index)) (sym c.index_of.ensures) ∙ is ∙ ap bytes c.get.ensures) gives.holds_asked
 
 pub returns-then-is_written-clause-only : goal.returns-then-is_written-clause-only
 returns-then-is_written-clause-only g c =

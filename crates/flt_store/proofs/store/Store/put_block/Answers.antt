@@ -20,7 +20,7 @@ new-requires g c = (omega arith, below_limit c.requires.alive)
 pub returns-clause-puts : goal.returns-clause-puts
 returns-clause-puts g c =
     let gives = rw c.new.ensures at c.in_ok-write_application.ensures.gives in
-    record { put = gives.done; either = gives.either; others = gives.others; sequence = λ told. absurd (cc told) }
+    record { put = gives.holds_asked; either = gives.either; others = gives.others; sequence = λ told. absurd (cc told) }
 
 pub returns-in_err-write_application-clause-puts : goal.returns-in_err-write_application-clause-puts
 returns-in_err-write_application-clause-puts g c =

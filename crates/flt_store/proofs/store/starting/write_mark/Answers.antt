@@ -35,7 +35,7 @@ returns-then-is_due-clause-mark g c = λ config same.
     let gives = mark_alone _ c.requires.table _ _ c.write.ensures.gives in
     let job = mark_alone _ c.requires.table _ _ c.write.ensures.jobs in
     record {
-      marked = λ commit allows. on_ok c.write.result (λ is. is ∙ ap bytes raw) gives.done;
+      marked = λ commit allows. on_ok c.write.result (λ is. is ∙ ap bytes raw) gives.holds_asked;
       tried = ⊎_elim (λ kept. inl kept) (λ is. inr (due, is ∙ ap bytes raw)) gives.either;
       unwritten = λ flash.
           (let failed = subst (λ (result : Result (Unit {0}) BlockFault). GivesInAJob mark_number (bytes c.put_mark.result) (length c.put_mark.result) before after result) flash job in (
