@@ -16,11 +16,11 @@ mod setting;
 mod valid_config;
 pub mod worked;
 
-pub use below::{ApplicationBlock, Below, Condition, OperationCycle, SignalIndex, Tester};
+pub use below::{ApplicationBlock, Below, Condition, OperationCycle, SignalIndex, Tester, kind};
 pub use config::{CfgFault, Config, Debounce, DidUse, EventCfg, Field};
 pub use durable::{are_states_of, fits, initial, is_entry_of, is_noted, place_of, put_initial};
 pub use persist::{EntryState, EventState, Frame, Persist, UNTESTED};
-pub use valid_config::{ValidConfig, check, needed_pages};
+pub use valid_config::{ValidConfig, check, needed_pages, verdict};
 
 /// The most events of a configuration.
 pub const EVENTS: usize = 256;

@@ -1,8 +1,8 @@
 //! The configurations that are accepted.
-ghost use Rattle.std.specs.Prelude.{◌≡◌, ◌≤◌, length, position};
+ghost use Rattle.std.specs.Prelude.{◌≡◌, ◌≤◌, OnOk, length, position};
 ghost use Rattle.flt_config.specs.Validity.{IsValid, has_dtc};
 ghost use Rattle.flt_config.specs.Validity.{needed_pages as needed_pages_of};
-ghost use Rattle.flt_config.specs.Check.{check_of, distinct_result, room_result};
+ghost use Rattle.flt_config.specs.Check.{check_of, distinct_result, room_result, unless_faulty};
 
 use crate::ranges::check_all_ranges;
 use crate::{CfgFault, Config, EVENTS, EventCfg};
@@ -28,6 +28,15 @@ impl Model for ValidConfig {
 }
 
 impl ValidConfig {
+    /// A configuration that the caller knows to be valid, as `verdict` says of those that it accepts.
+    #[inline(always)]
+    pub fn new(config: Config) -> ValidConfig
+        requires { IsValid config }
+        ensures { result ≡ config }
+    {
+        ValidConfig { config }
+    }
+
     /// The configuration.
     pub fn config(&self) -> &Config
         ensures value { result.now ≡ self.now }
@@ -72,16 +81,26 @@ fn put_events(events: &[EventCfg], out: &mut ArrayVec<EventCfg, EVENTS>)
     }
 }
 
-/// Accepts a configuration, or returns its first fault: first numbers out of range, in the order of
-/// `Field`, those of each event before those of the next; then two events with the same DTC; then lack of room.
+/// Accepts a configuration, or returns its first fault, which is that of `verdict`.
 #[tactic(auto, unfolding(crate::specs::Check::check_of))]
 pub fn check(config: Config) -> Result<ValidConfig, CfgFault>
     ensures { result ≡ check_of config }
 {
-    check_all_ranges(&config)?;
-    check_distinct(&config.events)?;
-    check_room(&config)?;
+    verdict(&config)?;
     Ok(ValidConfig { config })
+}
+
+/// Whether a configuration is accepted, and else its first fault: first numbers out of range, in the order of
+/// `Field`, those of each event before those of the next; then two events with the same DTC; then lack of room.
+#[tactic(auto, unfolding(crate::specs::Check::check_of))]
+pub fn verdict(config: &Config) -> Result<(), CfgFault>
+    ensures checked { check_of config.now ≡ unless_faulty config.now result }
+    ensures valid { OnOk result (IsValid config.now) }
+{
+    check_all_ranges(config)?;
+    check_distinct(&config.events)?;
+    check_room(config)?;
+    Ok(())
 }
 
 fn check_distinct(events: &[EventCfg]) -> Result<(), CfgFault>
