@@ -10,7 +10,6 @@ ghost use Rattle.flt_embed.specs.Carried.{carried};
 use crate::diary::Diary;
 use crate::fault::Fault;
 use crate::operation::{Operation, carry_out};
-use arrayvec::ArrayVec;
 use flt_config::{Persist, ValidConfig, initial};
 use flt_dcm::ReplyKind;
 use flt_fee::Fee;
@@ -18,7 +17,7 @@ use flt_file::FlashFile;
 use flt_flash::Blocks;
 use flt_image::{block_table, fee_numbers, laws};
 use flt_life_model::StepAnswer;
-use flt_lives::drain;
+use flt_lives::{drain, get};
 use flt_nvm::Nvm;
 use flt_queue::JobQueue;
 use flt_store::{SaveFault, StartFault, Store};
@@ -237,21 +236,4 @@ pub(crate) fn drain_on(
     let (written, failed) = drain(queue, &mut mounted.store, config);
     let settled = settle(mounted, config.config().pages).ok_or(Fault::Flash)?;
     Ok((settled, StepAnswer::Drained { written, failed }))
-}
-
-/// Reads an application block. There is no answer where the flash failed.
-fn get<D: Blocks + Drop>(
-    store: &mut Store<D>,
-    config: &ValidConfig,
-    block: u8,
-) -> StepAnswer<ReplyKind>
-    requires block { block < config.now.blocks }
-    requires alive { IsAlive config.now store.old }
-{
-    let mut bytes = ArrayVec::new();
-    match store.get_block(block, &mut bytes) {
-        Ok(true) => StepAnswer::Bytes(bytes),
-        Ok(false) => StepAnswer::NoBlock,
-        Err(_) => StepAnswer::BlockFlash,
-    }
 }

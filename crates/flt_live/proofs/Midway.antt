@@ -37,7 +37,8 @@ use Rattle.flt_life_model.proofs.HeldBlocks.{apart, held_beside, held_by, held_d
 use Rattle.flt_life_model.proofs.Keeping.{kept_entry, kept_other}
 use Rattle.flt_lives.specs.Living.{IsLiving}
 use Rattle.flt_lives.specs.Draining.{HasDrained}
-use Rattle.flt_live.specs.Made.{Finds, IsAnswered, IsMidway, IsSave, MakesStep, Made, ReadsSo, SavesSo, deeds_made, answers_of_made, journal_of, with_calls, with_deed_by, with_save}
+use Rattle.flt_live.specs.Made.{IsAnswered, IsMidway, IsSave, MakesStep, Made, SavesSo, deeds_made, answers_of_made, journal_of, with_calls, with_deed_by, with_save}
+use Rattle.flt_lives.specs.Reading.{IsReadOf, ReadsSo}
 
 module _ {B : Type 0} {b : Ghosts B} (c : Config) (step : Step) (told : Told) where
   midway_more : (action : Action) → action_of step ≡ action → (first : Generation) (found : ℕ → Content) (begun : BlocksState) (made : List Made) (unit next_unit : UnitView) (queue next_queue : JobQueue) (store next_store : Store B b)
@@ -72,7 +73,7 @@ save_tells_none answers.Dark earlier is = absurd is
 
 -- Nor does a read; it is answered by what the block holds.
 module _ (first : ℕ → Content) (past : History) (earlier : List Deed) (values : ℕ → Content) (block : ℕ) (below : block < applications) where
-  read_tells_none : (told : Told) → Finds (values (application_number block)) told → jobs_told (told ∷ answers_of earlier) ≡ jobs_told (answers_of earlier)
+  read_tells_none : (told : Told) → IsReadOf (values (application_number block)) told → jobs_told (told ∷ answers_of earlier) ≡ jobs_told (answers_of earlier)
   read_tells_none (answers.Bytes found) is = refl
   read_tells_none answers.NoBlock is = refl
   read_tells_none answers.BlockFlash is = refl
@@ -84,7 +85,7 @@ module _ (first : ℕ → Content) (past : History) (earlier : List Deed) (value
   read_tells_none answers.Armed is = absurd is
   read_tells_none answers.Dark is = absurd is
 
-  read_gets : (told : Told) → Finds (values (application_number block)) told → AreHeld first past (jobs_told (answers_of earlier)) earlier values → GetsBy first past earlier (actions.Get block) told
+  read_gets : (told : Told) → IsReadOf (values (application_number block)) told → AreHeld first past (jobs_told (answers_of earlier)) earlier values → GetsBy first past earlier (actions.Get block) told
   read_gets (answers.Bytes found) is held = held_by first past earlier values block (holding found.items) below is held
   read_gets answers.NoBlock is held = held_by first past earlier values block missing below is held
   read_gets answers.BlockFlash is held = tt

@@ -6,11 +6,10 @@ use Rattle.flt_model.specs.Answer.{answer}
 use Rattle.flt_model.specs.declared.call.Op.{Op}
 use Rattle.flt_model.specs.declared.call.Op.TheVariants as ops
 use Rattle.flt_flash.specs.Blocks.{BlocksState}
-use Rattle.flt_flash.specs.Calls.{Follows, SameValues}
-use Rattle.flt_flash.specs.Content.{Content, missing, bytes as holding}
+use Rattle.flt_flash.specs.Calls.{Follows}
+use Rattle.flt_flash.specs.Content.{Content}
 use Rattle.flt_flash.specs.declared.blocks.Blocks.{Ghosts}
 use Rattle.flt_store_model.specs.Holding.{Generation, SameApplications}
-use Rattle.flt_store_model.specs.Layout.{application_number}
 use Rattle.flt_dcm.specs.Unit.{UnitView}
 use Rattle.flt_queue.specs.declared.job.QueueOp.{QueueOp}
 use Rattle.flt_queue.specs.declared.queue.JobQueue.{JobQueue}
@@ -83,13 +82,6 @@ IsSave (answers.Saved number) = Unit {0}
 IsSave (answers.SaveFailed fault) = Unit {0}
 IsSave _ = ⊥
 
--- A read is answered by what the block holds, or the flash failed it.
-abbrev pub Finds : Content → Told → Type 0
-Finds content (answers.Bytes found) = content ≡ holding found.items
-Finds content answers.NoBlock = content ≡ missing
-Finds content answers.BlockFlash = Unit {0}
-Finds content _ = ⊥
-
 -- The answer is the queue's to a call after these.
 abbrev pub IsQueueReply : History → QueueOp → Told → Type 0
 IsQueueReply before op (answers.Queue told) = told.reply ≡ answer_q before op
@@ -141,14 +133,4 @@ module _ {B : Type 0} {b : Ghosts B} where
         → IsLiving c first (with_save told journal) (told ∷ earlier) next_unit next_store
     pub caused : (begun : ℕ) (earlier : List Told) → IsCaused c begun earlier store → IsCaused c begun (told ∷ earlier) next_store
     pub applications : SameApplications (driver_of store).value (driver_of next_store).value
-    pub keeps_driver : Follows (driver_of store) (driver_of next_store)
-
-  -- An application block was read, and this answered.
-  pub record ReadsSo (c : Config) (block : ℕ) (store next_store : Store B b) (told : Told) : Type 0 where
-    pub is : IsGot told
-    pub living : (first : Generation) (journal : Journal) (earlier : List Told) (unit : UnitView) → IsLiving c first journal earlier unit store
-        → IsLiving c first journal (told ∷ earlier) unit next_store
-    pub caused : (begun : ℕ) (earlier : List Told) → IsCaused c begun earlier store → IsCaused c begun (told ∷ earlier) next_store
-    pub found : Finds ((driver_of store).value (application_number block)) told
-    pub values : SameValues (driver_of store) (driver_of next_store)
     pub keeps_driver : Follows (driver_of store) (driver_of next_store)

@@ -1,10 +1,5 @@
 //! A step, made at once.
-ghost use Rattle.std.specs.Prelude.{◌≡◌, ◌∷◌, ◌<◌, ℕ, List};
-ghost use Rattle.flt_config.specs.Durable.{Fits};
-ghost use Rattle.flt_model.specs.Start.{Start, History as Calls};
-ghost use Rattle.flt_model.specs.Durable.{saved_after};
-ghost use Rattle.flt_model.specs.declared.call.Op.TheVariants as ops;
-ghost use Rattle.flt_dcm.specs.Unit.{Stands};
+ghost use Rattle.std.specs.Prelude.{◌≡◌, ℕ, List};
 ghost use Rattle.flt_dcm.specs.Whole.{config_of, unit_seen};
 ghost use Rattle.flt_step.specs.declared.step.Step.{Step};
 ghost use Rattle.flt_store.specs.Store.{IsAlive};
@@ -12,29 +7,16 @@ ghost use Rattle.flt_life_model.specs.Actions.{IsPossible, action_of};
 ghost use Rattle.flt_life_model.specs.Answers.{told_with};
 ghost use Rattle.flt_lives.specs.Living.{IsUnderWay};
 ghost use Rattle.flt_live.specs.Answered.{IsUp};
-ghost use Rattle.flt_live.specs.Made.{IsNoArm, MakesStep, ReadsSo, SavesSo};
+ghost use Rattle.flt_live.specs.Made.{IsNoArm, MakesStep, SavesSo};
 
-use arrayvec::ArrayVec;
 use flt_config::ValidConfig;
 use flt_dcm::{ReplyKind, Unit};
 use flt_flash::Blocks;
 use flt_life_model::{Action, Answer, StepAnswer};
-use flt_lives::{Buffers, drain};
+use flt_lives::{Buffers, drain, get, take_snapshot};
 use flt_model::Op;
 use flt_queue::JobQueue;
 use flt_store::Store;
-
-/// Takes the durable state.
-fn take_snapshot(unit: &mut Unit, buffers: &mut Buffers)
-    requires under_way { IsUnderWay (config_of unit.old) (unit_seen unit.old) }
-    ensures config { config_of unit.new ≡ config_of unit.old }
-    ensures under_way { IsUnderWay (config_of unit.old) (unit_seen unit.new) }
-    ensures stands { (life : Start) (past : Calls) → Stands life past (unit_seen unit.old) → Stands life (ops.Snapshot ∷ past) (unit_seen unit.new) }
-    ensures taken { (life : Start) (past : Calls) → Stands life past (unit_seen unit.old) → buffers.new.state ≡ saved_after life past }
-    ensures fits { Fits (config_of unit.old) buffers.new.state }
-{
-    unit.apply_into(&Op::Snapshot, &mut buffers.state, &mut buffers.response);
-}
 
 /// Saves the durable state.
 fn save<D: Blocks + Drop>(
@@ -62,25 +44,6 @@ fn save<D: Blocks + Drop>(
             StepAnswer::Saved(generation)
         }
         Err(fault) => StepAnswer::SaveFailed(fault),
-    }
-}
-
-/// Reads an application block.
-fn get<D: Blocks + Drop>(
-    store: &mut Store<D>,
-    config: &ValidConfig,
-    block: u8,
-) -> StepAnswer<ReplyKind>
-    requires block { block < config.now.blocks }
-    requires alive { IsAlive config.now store.old }
-    ensures alive { IsAlive config.now store.new }
-    ensures reads { (response : List ℕ) → ReadsSo config.now block store.old store.new (told_with response result) }
-{
-    let mut bytes = ArrayVec::new();
-    match store.get_block(block, &mut bytes) {
-        Ok(true) => StepAnswer::Bytes(bytes),
-        Ok(false) => StepAnswer::NoBlock,
-        Err(_) => StepAnswer::BlockFlash,
     }
 }
 

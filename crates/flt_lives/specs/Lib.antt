@@ -8,3 +8,4 @@ pub mod Media
 pub mod Devices
 pub mod Lives
 pub mod Draining
+pub mod Reading

@@ -3,8 +3,8 @@
 //!
 //! It depends on `flt_store` for the image, on `flt_dcm` for the machine, and on `flt_life_model`, whose definitions its clauses cite.
 //! The layer above calls `run_on_device` with a `Driver`, over a flash or over an EEPROM; `run_lives` and `run_life` are the same over any
-//! driver of blocks. Memory is taken before the first step of a life, and in none of its steps. `drain` writes the jobs of a queue that has
-//! no lock, for a layer that makes the steps itself. Read `Played`, `Chain` and `Lives` of `flt_life_model` first, then
+//! driver of blocks. Memory is taken before the first step of a life, and in none of its steps. For a layer that makes the steps
+//! itself, `drain` writes the jobs of a queue that has no lock, `get` reads an application block, and `take_snapshot` takes the state of a save. Read `Played`, `Chain` and `Lives` of `flt_life_model` first, then
 //! `specs/Devices.antt`.
 #![tactic(auto)]
 
@@ -17,6 +17,7 @@ mod driver;
 mod engine;
 mod lives;
 mod plain;
+mod reading;
 mod step;
 
 pub use buffers::Buffers;
@@ -26,3 +27,5 @@ pub use driver::Driver;
 pub use engine::{Engine, Lived};
 pub use lives::{run_life, run_lives};
 pub use plain::Plain;
+pub use reading::get;
+pub use step::take_snapshot;

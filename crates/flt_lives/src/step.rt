@@ -42,7 +42,7 @@ fn call(unit: &mut Unit, op: &Op, buffers: &mut Buffers) -> ReplyKind
 }
 
 /// Takes the durable state.
-fn take_snapshot(unit: &mut Unit, buffers: &mut Buffers)
+pub fn take_snapshot(unit: &mut Unit, buffers: &mut Buffers)
     requires under_way { IsUnderWay (config_of unit.old) (unit_seen unit.old) }
     ensures config { config_of unit.new ≡ config_of unit.old }
     ensures under_way { IsUnderWay (config_of unit.old) (unit_seen unit.new) }

@@ -12,7 +12,7 @@ use Rattle.flt_life_model.proofs.Causing.{caused_read, caused_unread}
 use Rattle.flt_life_model.proofs.HeldBlocks.{gets_bytes, gets_none}
 use Rattle.flt_life_model.proofs.Keeping.{IsNoSave, kept_other}
 use Rattle.flt_lives.specs.Living.{IsLiving}
-use Rattle.flt_live.proofs.making.get.Goals as goal
+use Rattle.flt_lives.proofs.reading.get.Goals as goal
 
 -- A read leaves the generations as they are.
 read_on : {B : Type 0} {b : Ghosts B} (c : Config) (first : Generation) (journal : Journal) (told : List Told) (unit : UnitView) (store next : Store B b) (answer : Told) → IsNoSave answer
