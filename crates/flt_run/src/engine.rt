@@ -120,7 +120,7 @@ pub(crate) fn run_in_lanes<R: Threads + Wait + Sync, G: SharedGate, D: Driver>(
     ensures { LivesOn (D.medium config.now) config.now (device_of (D.device_state device)) (device_of (D.device_state result.device))
         (lists lives.now) result.lives }
 {
-    match BoxedUnit::make(alloc, config.twin(), dids) {
+    match BoxedUnit::make(alloc, config, dids) {
         Ok(unit) => run_on_device::<D, LockEngine<'_, R, G>>(
             alloc,
             LockEngine { rt, gate, unit },

@@ -31,18 +31,18 @@ pub struct BoxedUnit {
 impl BoxedUnit {
     ghost use Rattle.flt_shared.specs.Boxed.{config_in, unit_in};
 
-    /// A unit with nothing saved, to which no call was made, in the box in which it stays.
+    /// A unit of a copy of this configuration, with nothing saved, to which no call was made, in the box in which it stays.
     pub fn make(
         alloc: Global,
-        config: ValidConfig,
+        config: &ValidConfig,
         dids: DidTable<DID_ROWS>,
     ) -> Result<BoxedUnit, AllocError>
-        requires { Serves (dids_of dids) config.events.items }
-        ensures config { IfOk result (λ boxed. config_in boxed ≡ config) }
+        requires { Serves (dids_of dids) config.now.events.items }
+        ensures config { IfOk result (λ boxed. config_in boxed ≡ config.now) }
         ensures dids { IfOk result (λ boxed. dids_of boxed.dids ≡ dids_of dids) }
-        ensures stands { IfOk result (λ boxed. Stands (fresh config) [] (unit_in boxed)) }
+        ensures stands { IfOk result (λ boxed. Stands (fresh config.now) [] (unit_in boxed)) }
     {
-        let state = Box::new(alloc, UnitState::make(DemState::make(config)))?;
+        let state = Box::new(alloc, UnitState::make(DemState::make(config.twin())))?;
         Ok(BoxedUnit { state, dids })
     }
 

@@ -59,7 +59,7 @@ pub(crate) fn live<R: Threads + Wait + Sync, G: Gate + Sync>(
         told,
         replies,
     } = LifeRoom::for_parts(alloc, parts)?;
-    let unit = BoxedUnit::make(alloc, config.twin(), dids)?;
+    let unit = BoxedUnit::make(alloc, config, dids)?;
     let calls = CallRoom::for_parts(parts);
     let (lock, mut main) = WatchLock::make(alloc, unit, subs, calls.machine)?;
     let mut answers = LifeAnswers {

@@ -96,7 +96,7 @@ fn values_after(alloc: Global, calls: &[Call]) -> Option<[Option<u64>; 3]> {
     if !dids.serves(&config.config().events) {
         return None;
     }
-    let unit = BoxedUnit::make(alloc, config, dids).ok()?;
+    let unit = BoxedUnit::make(alloc, &config, dids).ok()?;
     let mut subs: SubTable<KINDS> = SubTable::new();
     subs.add(0, note_0).ok()?;
     subs.add(1, note_1).ok()?;

@@ -25,7 +25,7 @@ run_parts-requires-clause-can g c κs within =
     let config = c.args.config.now in
     let parts = c.args.parts.now in
     let main = c.in_ok-lock.ensures.ok in
-    let same : c.in_ok-lock.main.start.config ≡ config = ap (λ (s : Seat). s.start.config) main ∙ c.in_ok-unit.ensures.config ∙ c.twin.ensures in
+    let same : c.in_ok-lock.main.start.config ≡ config = ap (λ (s : Seat). s.start.config) main ∙ c.in_ok-unit.ensures.config in
     let calls = ap (λ (s : Seat). s.left) main in
     let children = ap (λ (s : Seat). s.children) main in
     let room = c.in_ok-own.ensures in
@@ -61,7 +61,7 @@ returns-clause-life g c =
     let replies = c.life_of-life.result.replies.items in
     let view = c.life_of-life.ensures parts in
     let lived = c.in_ok-run_parts.ensures.lived in
-    let begins : main.start ≡ fresh config = ap (λ (s : Seat). s.start) c.in_ok-lock.ensures.ok ∙ (λ i. record { config = c.in_ok-unit.ensures.config i; base = c.in_ok-unit.ensures.stands.base i }) ∙ ap fresh c.twin.ensures in
+    let begins : main.start ≡ fresh config = ap (λ (s : Seat). s.start) c.in_ok-lock.ensures.ok ∙ (λ i. record { config = c.in_ok-unit.ensures.config i; base = c.in_ok-unit.ensures.stands.base i }) in
     let whole = closed after journal c.close-journal.ensures.seen c.close-journal.ensures.olds c.close-journal.ensures.calls in
     let made = made_of reply_after StepMakes main after parts own lanes journal (fresh_of main _ _ _ c.in_ok-lock.ensures.ok) lived whole in
     let started = subst (λ (s : Start). IsMade StepMakes reply_after s parts own lanes journal) begins made in
