@@ -22,21 +22,24 @@ const FIRST: &[u32] = &[0];
 pub(super) const ONE: &str = "event 0 dtc 000001\ncycle 0\nfail 0\npass 0\n";
 
 pub(super) const ONE_TOLD: &str =
-    "life 1 generation 0\ncycle 0 -> taken\nfail 0 -> taken\npass 0 -> taken\nwatch 0 value 2\nwatch 1 value 12078\nwatch 2 value 648415\n";
+    "life 1 generation 0\ncycle 0 -> taken\nfail 0 -> taken\npass 0 -> taken\nwatch 0 value 2\n\
+     watch 1 value 12078\nwatch 2 value 648415\n";
 
 /// Two events fail, and a tester clears all.
 const TWO: &str =
     "event 0 dtc 000001\nevent 1 dtc 000002\ncycle 0\nfail 0\nfail 1\nt A 14 FF FF FF\n";
 
-const TWO_TOLD: &str =
-    "life 1 generation 0\ncycle 0 -> taken\nfail 0 -> taken\nfail 1 -> taken\nt A 14 FF FF FF -> 54\nwatch 0 value 4\nwatch 1 value 77648\nwatch 2 value 694679520\n";
+const TWO_TOLD: &str = "life 1 generation 0\ncycle 0 -> taken\nfail 0 -> taken\nfail 1 -> taken\n\
+     t A 14 FF FF FF -> 54\nwatch 0 value 4\nwatch 1 value 77648\nwatch 2 value 694679520\n";
 
 /// Each kind of step that a watch makes. The event is disabled at its one report, so there is no change.
 const EACH: &str =
     "event 0 dtc 000001 needs 1\ncycle 0\nsig 0 7\ntick 5\nenable 0 0\nprefail 0\nshow 0\nt A 3E 00\n";
 
-const EACH_TOLD: &str =
-    "life 1 generation 0\ncycle 0 -> taken\nsig 0 7 -> taken\ntick 5 -> taken\nenable 0 0 -> taken\nprefail 0 -> ignored enable\nshow 0 -> status 50 fdc 0 failed 0 clean 0 stored 0 overflow 0\nt A 3E 00 -> 7E 00\nwatch 0 value 0\nwatch 1 value 0\nwatch 2 value 0\n";
+const EACH_TOLD: &str = "life 1 generation 0\ncycle 0 -> taken\nsig 0 7 -> taken\ntick 5 -> taken\n\
+     enable 0 0 -> taken\nprefail 0 -> ignored enable\n\
+     show 0 -> status 50 fdc 0 failed 0 clean 0 stored 0 overflow 0\nt A 3E 00 -> 7E 00\n\
+     watch 0 value 0\nwatch 1 value 0\nwatch 2 value 0\n";
 
 /// Each script, on a source and a sink that fail so, with its status and what is written.
 static CASES: [(&str, &[u32], &[u32], u8, &str); 9] = [
