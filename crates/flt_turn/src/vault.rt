@@ -1,7 +1,7 @@
 //! What is under the lock: the machine with the journal of its operations.
-ghost use Rattle.std.specs.Prelude.{◌≡◌, ◌++◌, ◌∷◌, [], ◌<◌, List, length};
+ghost use Rattle.std.specs.Prelude.{◌≡◌, ◌<◌, List, length};
 ghost use Rattle.std.specs.Vec.{vec_capacity};
-ghost use Rattle.flt_turn.specs.Journal.{entry, ops_of};
+ghost use Rattle.flt_turn.specs.Journal.{ops_of};
 
 use crate::machine::{Machine, StepInto, Stepper};
 
@@ -22,6 +22,8 @@ pub struct Vault<M: Machine> {
 }
 
 impl<M: Machine> Vault<M> {
+    ghost use Rattle.flt_turn.specs.Vaults.{TakesCall};
+
     /// Makes the machine's step, and records it in room that the journal has reserved.
     #[inline(always)]
     pub(crate) fn apply(
@@ -36,9 +38,7 @@ impl<M: Machine> Vault<M> {
         requires serves { M.Stepper.serves context.now (M.start self.old.machine) }
         requires admitted { M.admits (M.start self.old.machine) op }
         requires room { length self.old.journal.items < vec_capacity self.old.journal }
-        ensures journal { self.new.journal.items ≡ self.old.journal.items ++ entry lane op ∷ [] }
-        ensures room { vec_capacity self.new.journal ≡ vec_capacity self.old.journal }
-        ensures start { M.start self.new.machine ≡ M.start self.old.machine }
+        ensures takes { TakesCall lane op self.old self.new }
         ensures answer { result ≡ M.answer (M.start self.old.machine) (ops_of self.old.journal.items) op }
         ensures written { out.new ≡ M.written (M.start self.old.machine) (ops_of self.old.journal.items) op out.old }
     {
@@ -61,9 +61,7 @@ impl<M: Machine> Vault<M> {
         requires serves { M.StepInto.serves context.now (M.start self.old.machine) }
         requires admitted { M.admits (M.start self.old.machine) op }
         requires room { length self.old.journal.items < vec_capacity self.old.journal }
-        ensures journal { self.new.journal.items ≡ self.old.journal.items ++ entry lane op ∷ [] }
-        ensures room { vec_capacity self.new.journal ≡ vec_capacity self.old.journal }
-        ensures start { M.start self.new.machine ≡ M.start self.old.machine }
+        ensures takes { TakesCall lane op self.old self.new }
         ensures answer { M.StepInto.reply_with result payload.new ≡ M.answer (M.start self.old.machine) (ops_of self.old.journal.items) op }
     {
         let kind = self.machine.step_into(context, &op, payload);
