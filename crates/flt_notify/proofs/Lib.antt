@@ -1,3 +1,4 @@
 pub mod RowsLemmas
 pub mod ValueLemmas
+pub mod TouchedLemmas
 pub mod WatchLemmas

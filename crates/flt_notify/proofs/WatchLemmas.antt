@@ -5,24 +5,22 @@ use Rattle.flt_model.specs.Start.{Start, History}
 use Rattle.flt_model.specs.declared.call.Op.{Op}
 use Rattle.flt_dcm.specs.Unit.{Stands, UnitView}
 use Rattle.flt_notify.specs.Changes.{changes_from, statuses_after}
-use Rattle.flt_notify.specs.Value.{next_values, values_after}
+use Rattle.flt_notify.specs.Value.{next_values}
 use Rattle.flt_notify.specs.Watch.{IsWatching}
 use Rattle.flt_notify.proofs.ValueLemmas.{values_follow}
 
-pub watching_follows : (life : Start) (past : History) (op : Op) (old new : UnitView) (values now before : List ℕ) (calls later : ℕ)
-    → IsWatching life past old values calls
+pub watching_follows : (life : Start) (past : History) (op : Op) (old new : UnitView) (values now before after : List ℕ) (calls later : ℕ)
+    → IsWatching life past old values before calls
     → Stands life (op ∷ past) new
-    → before ≡ statuses_after life past
-    → now ≡ fold (next_values 0) values (changes_from calls 0 before (statuses_after life (op ∷ past)))
+    → now ≡ fold (next_values 0) values (changes_from calls 0 (statuses_after life past) (statuses_after life (op ∷ past)))
+    → after ≡ statuses_after life (op ∷ past)
     → later ≡ min (calls + 1) (2 ^ 32 - 1)
-    → IsWatching life (op ∷ past) new now later
-watching_follows life past op old new values now before calls later watched stands bytes told counted =
-    let after = statuses_after life (op ∷ past) in
-    record {
-      unit_stands = stands;
-      values_stand = told
-          ∙ ap (λ vs. fold (next_values 0) vs (changes_from calls 0 before after)) watched.values_stand
-          ∙ ap (λ bs. fold (next_values 0) (values_after life past) (changes_from calls 0 bs after)) bytes
-          ∙ values_follow life past op calls;
-      counted = omega (arith, counted, watched.counted);
-    }
+    → IsWatching life (op ∷ past) new now after later
+watching_follows life past op old new values now before after calls later watched stands told noted counted = record {
+  unit_stands = stands;
+  values_stand = told
+      ∙ ap (λ vs. fold (next_values 0) vs (changes_from calls 0 (statuses_after life past) (statuses_after life (op ∷ past)))) watched.values_stand
+      ∙ values_follow life past op calls;
+  bytes_stand = noted;
+  counted = omega (arith, counted, watched.counted);
+}

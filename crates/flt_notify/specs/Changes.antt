@@ -1,6 +1,8 @@
 -- The changes of status bytes that calls make (this profile).
 use Rattle.std.specs.Prelude.{ℕ, suc, ◌==◌, if◌then◌else◌, List, [], ◌∷◌, ◌++◌, length, map}
 use Rattle.flt_config.specs.declared.persist.EventState.{EventState}
+use Rattle.flt_model.specs.declared.call.Op.{Op}
+use Rattle.flt_model.specs.declared.call.Op.TheVariants as ops
 use Rattle.flt_model.specs.Start.{Start, History}
 use Rattle.flt_model.specs.Durable.{saved_after}
 use Rattle.flt_notify.specs.declared.change.Change.{Change}
@@ -29,3 +31,12 @@ changes_of_call life past now = changes_from (length past) 0 (statuses_after lif
 abbrev pub changes : Start → History → List Change
 changes life [] = []
 changes life (op ∷ past) = changes life past ++ changes_of_call life past (op ∷ past)
+
+-- A call in which nothing happens to any event.
+abbrev pub MarksNone : Op → Type 0
+MarksNone (ops.Signal index value) = Unit {0}
+MarksNone (ops.Enable condition fulfilled) = Unit {0}
+MarksNone (ops.Show event) = Unit {0}
+MarksNone ops.Snapshot = Unit {0}
+MarksNone (ops.Saved generation) = Unit {0}
+MarksNone _ = ⊥

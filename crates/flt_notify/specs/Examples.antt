@@ -31,3 +31,11 @@ ClearOfTwo =
     (asks 0 (0x14 ∷ 0xFF ∷ 0xFF ∷ 0xFF ∷ []) ∷ fail 1 ∷ fail 0 ∷ Cycle 0 ∷ [])
     (at 1 0 0x50 0x2F ∷ at 2 1 0x50 0x2F ∷ at 3 0 0x2F 0x50 ∷ at 3 1 0x2F 0x50 ∷ [])
     (4 ∷ 77648 ∷ 694679520 ∷ [])
+
+-- The memory is full: an event fails and passes, and gives way to another one that fails. This one call changes both.
+abbrev pub Displacement : Type 0
+Displacement =
+    Leads (fresh (configured 1 (event 1 ∷ event 2 ∷ [])))
+    (fail 1 ∷ pass 0 ∷ fail 0 ∷ Cycle 0 ∷ [])
+    (at 1 0 0x50 0x2F ∷ at 2 0 0x2F 0x2E ∷ at 3 0 0x2E 0x26 ∷ at 3 1 0x50 0x2F ∷ [])
+    (4 ∷ 86063 ∷ 623579112 ∷ [])

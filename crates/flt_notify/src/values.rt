@@ -1,5 +1,5 @@
 //! The values of the three kinds.
-ghost use Rattle.std.specs.Prelude.{◌≡◌, ◌<◌, ◌≤◌, ◌^◌, ℕ, All, length, replicate, slice_get, slice_set, slice_index_or, fold};
+ghost use Rattle.std.specs.Prelude.{◌≡◌, ◌<◌, ◌≤◌, ◌^◌, ◌∷◌, [], ℕ, All, length, replicate, slice_get, slice_set, slice_index_or, fold};
 ghost use Rattle.flt_notify.specs.Changes.{changes_from, statuses};
 ghost use Rattle.flt_notify.specs.Rows.{AreAnswersTo};
 ghost use Rattle.flt_notify.specs.Subscribers.{AreTold};
@@ -69,29 +69,48 @@ impl Values {
         ];
     }
 
-    /// Reports each change of a call at a place of the journal to each subscriber, in the order of the events' numbers.
+    /// Reports the change of an event's status byte by a call at a place of the journal to each subscriber, if it changed.
+    pub(crate) fn tell_event<const ROWS: usize>(
+        &mut self,
+        subscribers: &Subscribers<ROWS>,
+        place: u32,
+        event: u16,
+        before: u8,
+        after: u8,
+    )
+        ensures values { self.new ≡ fold (next_values 0) self.old (changes_from place event (before ∷ []) (after ∷ [])) }
+        ensures called { AreTold subscribers.now self.old (changes_from place event (before ∷ []) (after ∷ [])) self.new }
+    {
+        if before != after {
+            let change = Change {
+                place,
+                event,
+                before,
+                after,
+            };
+            self.take(subscribers, change);
+        }
+    }
+
+    /// Reports each change of a call at a place of the journal to each subscriber, in the order of the events' numbers. The bytes are the
+    /// status bytes before the call, and then those after it.
     pub(crate) fn tell_changes<const ROWS: usize>(
         &mut self,
         subscribers: &Subscribers<ROWS>,
         place: u32,
-        before: &[u8],
+        bytes: &mut [u8],
         states: &[EventState],
     )
-        requires one_each { length before.now ≡ length states.now }
-        requires events { length before.now ≤ 65536 }
-        ensures values { self.new ≡ fold (next_values 0) self.old (changes_from place 0 before.now (statuses states.now)) }
-        ensures called { AreTold subscribers.now self.old (changes_from place 0 before.now (statuses states.now)) self.new }
+        requires one_each { length bytes.old ≡ length states.now }
+        requires events { length bytes.old ≤ 65536 }
+        ensures values { self.new ≡ fold (next_values 0) self.old (changes_from place 0 bytes.old (statuses states.now)) }
+        ensures called { AreTold subscribers.now self.old (changes_from place 0 bytes.old (statuses states.now)) self.new }
+        ensures noted { bytes.new ≡ statuses states.now }
     {
-        for event in 0..before.len() {
-            let change = Change {
-                place,
-                event: event as u16,
-                before: before[event],
-                after: states[event].status,
-            };
-            if change.before != change.after {
-                self.take(subscribers, change);
-            }
+        for event in 0..bytes.len() {
+            let after = states[event].status;
+            self.tell_event(subscribers, place, event as u16, bytes[event], after);
+            bytes[event] = after;
         }
     }
 }

@@ -1,17 +1,16 @@
 //! The status machine with the values of its subscribers, as it lies under the lock.
-ghost use Rattle.std.specs.Prelude.{◌≡◌, ◌≤◌, ◌^◌, ◌-◌, ◌+◌, [], min, fold, length, map, reverse};
+ghost use Rattle.std.specs.Prelude.{◌≡◌, ◌≤◌, ◌^◌, ◌-◌, ◌+◌, [], ◌∷◌, ◌↔◌, IfOk, IsTrue, IsFalse, min, length, map, reverse, false, true};
+ghost use Rattle.flt_model.specs.Byte.{is_bit_set};
 ghost use Rattle.flt_model.specs.Start.{Start, History};
 ghost use Rattle.flt_did.specs.Serves.{Serves};
 ghost use Rattle.flt_did.specs.Table.{dids_of};
-ghost use Rattle.flt_dcm.specs.Unit.{Stands, written};
+ghost use Rattle.flt_dcm.specs.Unit.{IsAdmitted, Stands, written};
 ghost use Rattle.flt_shared.specs.Boxed.{config_in, unit_in};
 ghost use Rattle.flt_shared.specs.Call.{MayBeAsked, reply_after, with_response};
 ghost use Rattle.flt_shared.specs.Start.{some_start, start_of};
-ghost use Rattle.flt_notify.specs.Changes.{changes_from, statuses, statuses_after};
-ghost use Rattle.flt_notify.specs.Subscribers.{AreTold, kinds_of};
+ghost use Rattle.flt_notify.specs.Changes.{MarksNone, statuses, statuses_after};
+ghost use Rattle.flt_notify.specs.Subscribers.{TellsCall, kinds_of};
 ghost use Rattle.flt_notify.specs.Table.{HasValuesOf, IsAtZero, kinds_in, values_in};
-ghost use Rattle.flt_notify.specs.Value.{next_values};
-ghost use Rattle.flt_notify.specs.Watched.{Watches, values_now, watched_unit};
 
 use crate::kinds::KINDS;
 use crate::subscribers::Subscribers;
@@ -23,6 +22,7 @@ use flt_did::{DID_ROWS, DidTable};
 use flt_model::RESPONSE;
 use flt_shared::{BoxedUnit, DemStart, Guarded, Op, Reply, ReplyKind};
 use flt_turn::{Machine, StepInto, Stepper};
+use std::alloc::{AllocError, Global};
 
 /// What is lent to each step of a watched machine: the functions that it calls, which are only read.
 #[derive(Drop)]
@@ -39,7 +39,10 @@ pub struct Lent {
 pub struct Watched {
     guarded: Guarded,
     values: Values,
+    /// The status byte of each event after the last call, by number.
+    statuses: Box<ArrayVec<u8, EVENTS>>,
     calls: u32,
+    ghost one_each: { length statuses.value.items ≡ length guarded.state.value.dem.durable.config.events.items },
 }
 
 /// The status bytes of events, by number.
@@ -54,16 +57,41 @@ fn statuses_of(states: &[EventState]) -> ArrayVec<u8, EVENTS>
     bytes
 }
 
+/// Whether an event's last test failed, and did not before, by its status bytes (ISO 14229-1, DTC status bit 0).
+fn has_entered(before: u8, after: u8) -> bool
+    ensures { IsTrue result ↔ (is_bit_set before 0 ≡ false) × (is_bit_set after 0 ≡ true) }
+{
+    before % 2 == 0 && after % 2 == 1
+}
+
+/// Whether something may happen to an event in a call.
+fn may_mark(op: &Op) -> bool
+    ensures { IsFalse result → MarksNone op.now }
+{
+    matches!(
+        op,
+        Op::Report { .. } | Op::Tick { .. } | Op::Cycle { .. } | Op::Request { .. }
+    )
+}
+
 impl Watched {
-    /// A machine with the unit and these subscribers, which took no call yet, and what is to be lent to its steps.
-    pub fn make(unit: BoxedUnit, subs: SubTable<KINDS>) -> (Watched, Lent)
+    ghost use Rattle.flt_notify.specs.Watched.{Watches, bytes_now, values_now, watched_unit};
+
+    /// A machine with the unit and these subscribers, which took no call yet, and what is to be lent to its steps. At `Err` there was not
+    /// enough memory, and unit and subscribers are dropped: make them again when memory is free.
+    pub fn make(
+        alloc: Global,
+        unit: BoxedUnit,
+        subs: SubTable<KINDS>,
+    ) -> Result<(Watched, Lent), AllocError>
         requires started { Stands (start_of (unit_in unit)) [] (unit_in unit) }
         requires zero { IsAtZero subs }
-        ensures start { start_of (watched_unit result.0) ≡ start_of (unit_in unit) }
-        ensures stands { Watches (start_of (unit_in unit)) [] result.0 }
-        ensures dids { dids_of result.1.dids ≡ dids_of unit.dids }
-        ensures subs { kinds_of result.1.subscribers ≡ kinds_in subs }
+        ensures start { IfOk result (λ made. start_of (watched_unit made.0) ≡ start_of (unit_in unit)) }
+        ensures stands { IfOk result (λ made. Watches (start_of (unit_in unit)) [] made.0) }
+        ensures dids { IfOk result (λ made. dids_of made.1.dids ≡ dids_of unit.dids) }
+        ensures subs { IfOk result (λ made. kinds_of made.1.subscribers ≡ kinds_in subs) }
     {
+        let statuses = Box::new(alloc, statuses_of(unit.state.states()))?;
         let BoxedUnit { state, dids, .. } = unit;
         let SubTable {
             subscribers,
@@ -72,9 +100,10 @@ impl Watched {
         let watched = Watched {
             guarded: Guarded { state },
             values,
+            statuses,
             calls: 0,
         };
-        (watched, Lent { dids, subscribers })
+        Ok((watched, Lent { dids, subscribers }))
     }
 
     /// The unit and the table of subscribers, with their values.
@@ -89,6 +118,7 @@ impl Watched {
         let Watched {
             guarded,
             values,
+            statuses: _,
             calls: _,
         } = self;
         let Lent { dids, subscribers } = lent;
@@ -103,24 +133,51 @@ impl Watched {
         )
     }
 
-    /// Ends a step: reports the changes since the status bytes were these, and counts the call.
-    fn tell(&mut self, subscribers: &Subscribers<KINDS>, before: &[u8])
-        requires one_each { length before.now ≡ length (watched_unit self.old).dem.durable.config.events.items }
+    /// Reports the changes that a call made of the status bytes, and notes the bytes after it. It looks at the bytes that the call may
+    /// change: at none, or at that of a report's event. If that event failed now and not before, it may have displaced another one, so all are
+    /// looked at, as they are at the other calls.
+    fn tell_changes(&mut self, subscribers: &Subscribers<KINDS>, op: &Op)
+        requires admitted { IsAdmitted (watched_unit self.old).dem.durable.config op.now }
         ensures unit { self.new.guarded ≡ self.old.guarded }
-        ensures calls { self.new.calls ≡ min (self.old.calls + 1) (2 ^ 32 - 1) }
-        ensures values { (life : Start) (now : History) → Stands life now (watched_unit self.old)
-            → self.new.values ≡ fold (next_values 0) self.old.values (changes_from self.old.calls 0 before.now (statuses_after life now)) }
-        ensures called { (life : Start) (now : History) → Stands life now (watched_unit self.old)
-            → AreTold subscribers.now self.old.values (changes_from self.old.calls 0 before.now (statuses_after life now)) self.new.values }
+        ensures calls { self.new.calls ≡ self.old.calls }
+        ensures reports { (life : Start) (past : History) → bytes_now self.old ≡ statuses_after life past → Stands life (op.now ∷ past) (watched_unit self.old)
+            → TellsCall subscribers.now life past op.now self.old.calls self.old.values self.new.values (bytes_now self.new) }
     {
         let states = self.guarded.state.states();
+        let bytes = self.statuses.as_mut_slice();
+        if let Op::Report { event, .. } = op {
+            let place = usize::from(*event);
+            let before = bytes[place];
+            let after = states[place].status;
+            if !has_entered(before, after) {
+                self.values
+                    .tell_event(subscribers, self.calls, *event, before, after);
+                bytes[place] = after;
+                return;
+            }
+        } else if !may_mark(op) {
+            return;
+        }
         self.values
-            .tell_changes(subscribers, self.calls, before, states);
+            .tell_changes(subscribers, self.calls, bytes, states);
+    }
+
+    /// Ends the step of a call: reports its changes, and counts it.
+    fn tell(&mut self, subscribers: &Subscribers<KINDS>, op: &Op)
+        requires admitted { IsAdmitted (watched_unit self.old).dem.durable.config op.now }
+        ensures unit { self.new.guarded ≡ self.old.guarded }
+        ensures calls { self.new.calls ≡ min (self.old.calls + 1) (2 ^ 32 - 1) }
+        ensures reports { (life : Start) (past : History) → bytes_now self.old ≡ statuses_after life past → Stands life (op.now ∷ past) (watched_unit self.old)
+            → TellsCall subscribers.now life past op.now self.old.calls self.old.values self.new.values (bytes_now self.new) }
+    {
+        self.tell_changes(subscribers, op);
         self.calls = self.calls.saturating_add(1);
     }
 }
 
 impl Machine for Watched {
+    ghost use Rattle.flt_notify.specs.Watched.{Watches, watched_unit};
+
     type Start = DemStart;
 
     type Op = Op;
@@ -148,9 +205,8 @@ impl Stepper for Watched {
     ghost serves = { λ lent start. Serves (dids_of lent.dids) start.config.events.items };
 
     fn step(&mut self, lent: &Lent, op: &Op, out: &mut Persist) -> Reply {
-        let before = statuses_of(self.guarded.state.states());
         let reply = self.guarded.step(&lent.dids, op, out);
-        self.tell(&lent.subscribers, &before);
+        self.tell(&lent.subscribers, op);
         reply
     }
 }
@@ -168,9 +224,8 @@ impl StepInto for Watched {
         op: &Op,
         response: &mut ArrayVec<u8, RESPONSE>,
     ) -> ReplyKind {
-        let before = statuses_of(self.guarded.state.states());
         let kind = self.guarded.step_into(&lent.dids, op, response);
-        self.tell(&lent.subscribers, &before);
+        self.tell(&lent.subscribers, op);
         kind
     }
 }

@@ -1,6 +1,6 @@
 //! Worked examples, which the check computes.
 
-ghost use Rattle.flt_notify.specs.Examples.{ClearOfTwo, FailAndPass};
+ghost use Rattle.flt_notify.specs.Examples.{ClearOfTwo, Displacement, FailAndPass};
 
 /// An event fails and passes.
 pub fn fail_and_pass()
@@ -10,4 +10,9 @@ pub fn fail_and_pass()
 /// Two events fail, and a tester clears all.
 pub fn clear_of_two()
     ensures { ClearOfTwo }
+{}
+
+/// The memory is full: an event fails and passes, and gives way to another one that fails.
+pub fn displacement()
+    ensures { Displacement }
 {}

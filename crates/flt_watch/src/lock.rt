@@ -63,7 +63,7 @@ impl WatchLock {
         ensures kinds { IfOk result (λ made. kinds_of made.0.lent.subscribers ≡ kinds_in subs) }
     {
         let config = Snapshot::of(unit.state.config().config());
-        let (watched, lent) = Watched::make(unit, subs);
+        let (watched, lent) = Watched::make(alloc, unit, subs)?;
         let (turn, seat) = Turn::make(alloc, watched, room)?;
         Ok((WatchLock { turn, lent, config }, seat))
     }

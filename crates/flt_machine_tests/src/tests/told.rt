@@ -101,7 +101,7 @@ fn values_after(alloc: Global, calls: &[Call]) -> Option<[Option<u64>; 3]> {
     subs.add(0, note_0).ok()?;
     subs.add(1, note_1).ok()?;
     subs.add(2, note_2).ok()?;
-    let (watched, lent) = Watched::make(unit, subs);
+    let (watched, lent) = Watched::make(alloc, unit, subs).ok()?;
     let mut watcher = Watcher {
         watched,
         lent,

@@ -32,6 +32,14 @@ const TWO: &str =
 const TWO_TOLD: &str = "life 1 generation 0\ncycle 0 -> taken\nfail 0 -> taken\nfail 1 -> taken\n\
      t A 14 FF FF FF -> 54\nwatch 0 value 4\nwatch 1 value 77648\nwatch 2 value 694679520\n";
 
+/// The memory is full: an event fails and passes, and gives way to another one that fails. This one call changes both.
+const DISPLACED: &str =
+    "memory 1\nevent 0 dtc 000001\nevent 1 dtc 000002\ncycle 0\nfail 0\npass 0\nfail 1\n";
+
+const DISPLACED_TOLD: &str =
+    "life 1 generation 0\ncycle 0 -> taken\nfail 0 -> taken\npass 0 -> taken\n\
+     fail 1 -> taken\nwatch 0 value 4\nwatch 1 value 86063\nwatch 2 value 623579112\n";
+
 /// Each kind of step that a watch makes. The event is disabled at its one report, so there is no change.
 const EACH: &str =
     "event 0 dtc 000001 needs 1\ncycle 0\nsig 0 7\ntick 5\nenable 0 0\nprefail 0\nshow 0\nt A 3E 00\n";
@@ -42,10 +50,11 @@ const EACH_TOLD: &str = "life 1 generation 0\ncycle 0 -> taken\nsig 0 7 -> taken
      watch 0 value 0\nwatch 1 value 0\nwatch 2 value 0\n";
 
 /// Each script, on a source and a sink that fail so, with its status and what is written.
-static CASES: [(&str, &[u32], &[u32], u8, &str); 9] = [
+static CASES: [(&str, &[u32], &[u32], u8, &str); 10] = [
     (EACH, NONE, NONE, 0, EACH_TOLD),
     (ONE, NONE, NONE, 0, ONE_TOLD),
     (TWO, NONE, NONE, 0, TWO_TOLD),
+    (DISPLACED, NONE, NONE, 0, DISPLACED_TOLD),
     (
         "event 0 dtc 000001\nsave\n",
         NONE,
