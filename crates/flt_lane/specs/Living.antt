@@ -72,9 +72,13 @@ drains_of (deed ∷ earlier) = drains_by deed.1 + drains_of earlier
 
 -- By a beginning of the queue's journal that the seat knows, which has this many calls of drains, where no other drain was at work.
 pub record HoldsBy (first : ℕ → Content) (seat : QueueSeat) (calls jobs : ℕ) (deeds : List Deed) (values : ℕ → Content) : Type 0 where
+  -- The beginning of the journal.
   pub known : List (Entry QueueOp)
+  -- The seat knows it.
   pub is_known : IsKnownTo seat known
+  -- It has the calls of these drains.
   pub least : calls ≤ drains_in known
+  -- If it has no other drain's, each application block holds what these jobs may have left.
   pub held : drains_in known ≤ calls → AreHeld first (reverse (ops_of known)) jobs deeds values
 
 -- Between two deeds.
@@ -85,18 +89,29 @@ module _ {B : Type 0} {b : Ghosts B} where
   -- The store runs, and its generations are those of the saves in a beginning of the journal that the seat knows, which has the calls
   -- of these deeds, where no other save was made.
   pub record IsLivingOn (c : Config) (first : Generation) (seat : Seat) (deeds : List Deed) (store : Store B b) : Type 0 where
+    -- The generation that was acknowledged last, or a later one.
     pub held : Generation
+    -- The other one that may be restored.
     pub spare : Generation
+    -- The store runs with the two.
     pub running : IsRunning c held spare store
+    -- The beginning of the journal.
     pub known : Journal
+    -- The seat knows it.
     pub is_known : IsKnownTo seat known
+    -- It has the saves among these deeds.
     pub least : saves_of deeds ≤ saves_in known
+    -- If it has no other save, the two are what these saves may have left.
     pub kept : saves_in known ≤ saves_of deeds → IsKeptSince c first (reverse known) (answers_of deeds) held spare
 
   -- What steps carry on.
   pub record Carries (c : Config) (before after : Seat) (jobs jobs_after : QueueSeat) (earlier deeds : List Deed) (store now : Store B b) : Type 0 where
+    -- A store that ran runs.
     pub alive : IsAlive c store → IsAlive c now
+    -- If its generations were those of the saves so far, they are those of the saves with these.
     pub living : (first : Generation) → before.start ≡ start_from c first.state → IsLivingOn c first before earlier store → IsLivingOn c first after deeds now
+    -- If each failure had its cause, so has each of these.
     pub caused : (begun : ℕ) → IsCaused c begun (answers_of earlier) store → IsCaused c begun (answers_of deeds) now
+    -- If its blocks held what the drains so far may have left, they hold what these may have left.
     pub holds : IsAlive c store → (first : ℕ → Content) → HoldsOn first jobs earlier (driver_of store).value
         → HoldsOn first jobs_after deeds (driver_of now).value

@@ -13,9 +13,13 @@ use Rattle.flt_lane.specs.declared.room.BlockRoom.{BlockRoom}
 
 -- The lanes are ready, with room for the seats of each.
 pub record IsBlockRoom (block : BlockRoom) : Type 0 where
+  -- There is room for the answers of each lane.
   pub ready : All IsLaneRoom block.lanes.items
+  -- No lane has its seats yet.
   pub empty : block.works.items ≡ []
+  -- Nor is one counted.
   pub none : vec_len block.works ≡ 0
+  -- There is room for the seats of each.
   pub room : length block.lanes.items ≤ vec_capacity block.works
 
 -- The steps of the lanes of a block.
@@ -30,7 +34,9 @@ blocks_in (inr lanes ∷ parts) = lanes ∷ blocks_in parts
 
 -- Each block of these parts has its room, in order.
 pub record AreRoomsOf (parts : List (PartOf Step)) (rooms : List BlockRoom) : Type 0 where
+  -- The rooms have the lanes of the blocks.
   pub lanes_are : map lanes_of rooms ≡ blocks_in parts
+  -- Each is ready.
   pub ready : All IsBlockRoom rooms
 
 -- How many calls lanes make at most of the status machine, and of the queue.

@@ -20,14 +20,20 @@ use Rattle.flt_program.specs.declared.invocation.Invocation.TheVariants.{Flash, 
 
 -- A flash that serves each script.
 pub record IsFlashForAll (flash : FlashState) : Type 0 where
+  -- It has the most pages that a configuration may ask for.
   pub pages : flash.pages ≡ 1024
+  -- The power can come once for each life.
   pub boots : 256 ≤ flash.bench.boots_left
+  -- No arm was made.
   pub unarmed : flash.bench.armed ≡ 0
 
 -- An EEPROM that serves each script.
 pub record IsEepromForAll (eeprom : FlashState) : Type 0 where
+  -- It has the most units that a configuration may ask for.
   pub units : 1090 ≤ eeprom.pages
+  -- The power can come once for each life.
   pub boots : 256 ≤ eeprom.bench.boots_left
+  -- No arm was made.
   pub unarmed : eeprom.bench.armed ≡ 0
 
 -- As it was invoked: with a run over the flash or over the EEPROM, or with a watch, of which this holds.
