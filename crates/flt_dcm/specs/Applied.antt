@@ -9,9 +9,13 @@ use Rattle.flt_dcm.specs.Unit.{UnitView, Stands, Takes, Answers, IsIgnored, IsRe
 
 -- A unit took this call, and this reply is the answer; where the call is a question or is refused, the unit is as it was.
 pub record AppliesCall (op : Op) (before after : UnitView) (reply : Reply) : Type 0 where
+  -- The configuration is the same.
   pub config : after.dem.durable.config ≡ before.dem.durable.config
+  -- The durable state of the last power-up is the same.
   pub base : after.base ≡ before.base
+  -- The unit is in the state that one more call leads to.
   pub stands : Takes op before after
+  -- The reply is the one that the call has after the calls before it.
   pub answer : Answers op before reply
   -- A show, a snapshot and a save change nothing.
   pub reading : IsReading op → after ≡ before
@@ -22,5 +26,7 @@ pub record AppliesCall (op : Op) (before after : UnitView) (reply : Reply) : Typ
 
 -- A snapshot of this unit writes the durable state after the calls so far, and no other call writes one.
 pub record WritesState (op : Op) (unit : UnitView) (before after : Persist) : Type 0 where
+  -- A snapshot writes the durable state after the calls so far.
   pub written : (life : Start) (past : History) → Stands life past unit → after ≡ written life past op before
+  -- Another call writes nothing.
   pub kept : op ≢ ops.Snapshot → after ≡ before

@@ -65,6 +65,9 @@ ticked ticks (Extended holds silent) =
 
 -- A tester's session, hold and silent time are those that the calls so far lead to.
 pub record SessionStands (tester : ℕ) (past : History) (session : Session) : Type 0 where
+  -- The session is the extended one if the calls lead to it.
   pub extended : is_extended tester past ≡ is_extended_one session
+  -- The tester holds the settings off if the calls lead to it.
   pub hold : holds_off tester past ≡ has_hold session
+  -- The silent time is as long as the calls make it.
   pub silent : IsSilentFor session (silence tester past)

@@ -18,13 +18,18 @@ use Rattle.flt_dcm.specs.declared.session.Session.TheVariants.{Default}
 
 -- The event manager, the sessions of the four testers, and the durable state of the last power-up.
 pub record UnitView : Type 0 where
+  -- The event manager.
   pub dem : Manager
+  -- The session of each tester.
   pub sessions : List Session
+  -- The durable state of the last power-up.
   pub base : Persist
 
 -- There is a session for each of the four testers, and the base fits the configuration.
 pub record IsUnitOf (config : Config) (sessions : List Session) (base : Persist) : Type 0 where
+  -- There is a session for each of the four testers.
   pub one_each : length sessions ≡ 4
+  -- The base fits the configuration.
   pub fits : Fits config base
 
 -- The session of a tester.
@@ -37,8 +42,11 @@ SessionsStand past sessions = (tester : ℕ) → tester < 4 → SessionStands te
 
 -- A unit in the state that the base and the calls since power-up lead to.
 pub record Stands (life : Start) (past : History) (unit : UnitView) : Type 0 where
+  -- The event manager is in the state that the calls lead to.
   pub dem : StandsFor life past unit.dem
+  -- So is each tester's session.
   pub sessions : SessionsStand past unit.sessions
+  -- The base is that of the last power-up.
   pub base : unit.base ≡ life.base
 
 -- A call whose numbers are in their ranges: a signal or an enable condition of the eight, a configured event, one of the

@@ -16,8 +16,13 @@ IsLaneSteps steps = All (λ step. IsTrue (is_lane_step step)) steps
 
 -- The answers of a dark life to the steps of lane 0 among these parts, after the earlier ones; none has a response.
 pub record AddsDarkAnswers (parts : List (PartOf Step)) (before after : LaneReplies) : Type 0 where
+  -- The dark answers of the steps come after those before.
   pub answers : told_in after ≡ told_in before ++ map dark_answer (own_actions parts)
+  -- There is one a step.
   pub len : vec_len after.answers ≡ vec_len before.answers + length (own_steps parts)
+  -- The list of answers has the room that it had.
   pub room : vec_capacity after.answers ≡ vec_capacity before.answers
+  -- There are as many responses as before.
   pub responses : vec_len after.responses ≡ vec_len before.responses
+  -- The room for responses is no less.
   pub bytes : byte_room before.responses ≤ byte_room after.responses

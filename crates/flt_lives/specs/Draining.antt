@@ -45,17 +45,24 @@ IsDrained before jobs after = ((length jobs ≡ 32) × (after ≡ behind_jobs be
 
 -- A drain took these calls of the queue to those.
 pub record Drains (before : History) (written failed : ℕ) (after : History) : Type 0 where
+  -- The jobs that it took, with what became of each.
   pub jobs : List TakenJob
+  -- They are the next jobs of the queue, in order.
   pub taken : AreTaken before jobs
+  -- As many were written as it answers.
   pub written_is : written ≡ written_in jobs
+  -- As many failed as it answers.
   pub failed_is : failed ≡ failed_in jobs
+  -- It ended with the 32nd job, or when no job waited.
   pub ended : IsDrained before jobs after
 
 module _ {B : Type 0} {b : Ghosts B} where
   -- What this many jobs, of which some could not be written, carry on of the store, between these calls of the queue.
   pub record CarriesJobs (c : Config) (before after : History) (count failed : ℕ) (store now : Store B b) : Type 0 where
+    -- Each application block holds what the deeds and the jobs so far left there.
     pub held : (first : ℕ → Content) (jobs : ℕ) (deeds : List Deed) → AreHeld first before jobs deeds (driver_of store).value
         → AreHeld first after (jobs + count) deeds (driver_of now).value
+    -- If so many more failures are answered, each failure still has its cause.
     pub caused : (begun : ℕ) (told : List Told) (some more less : ℕ) → IsCaused c begun (answers.Drained some less ∷ told) store
         → IsCaused c begun (answers.Drained more (less + failed) ∷ told) now
 
@@ -69,18 +76,30 @@ module _ {B : Type 0} {b : Ghosts B} where
 
   -- A drain took this many jobs so far.
   pub record IsDraining (c : Config) (before : History) (count written failed : ℕ) (queue : JobQueue) (store now : Store B b) : Type 0 where
+    -- The jobs that it took, with what became of each.
     pub jobs : List TakenJob
+    -- They are as many as it counted.
     pub count_is : length jobs ≡ count
+    -- They are the next jobs of the queue, in order.
     pub taken : AreTaken before jobs
+    -- As many were written as it counted.
     pub written_is : written ≡ written_in jobs
+    -- As many failed as it counted.
     pub failed_is : failed ≡ failed_in jobs
+    -- Each was written or failed.
     pub all : written + failed ≡ count
+    -- The queue is in the state that these jobs lead to.
     pub stands : QueueStands c.blocks (behind_jobs before jobs) queue
+    -- The store has what they wrote.
     pub carries : CarriesJobs c before (behind_jobs before jobs) count failed store now
 
   -- A drain took the queue from these calls to others, and carried on the store.
   pub record HasDrained (c : Config) (before : History) (written failed : ℕ) (queue : JobQueue) (store now : Store B b) : Type 0 where
+    -- The calls of the queue after the drain.
     pub after : History
+    -- The drain took the queue from the calls before to them.
     pub drains : Drains before written failed after
+    -- The queue is in the state that they lead to.
     pub stands : QueueStands c.blocks after queue
+    -- The store has what the jobs wrote.
     pub carries : CarriesJobs c before after (written + failed) failed store now

@@ -16,6 +16,7 @@ KeepsOn {B = B} b c medium = (driver : B) → (b.state driver).numbers ≡ numbe
 
 -- An arm that was made in a life with this many boots was made past this count.
 pub record IsPast (boots count : ℕ) (arm : ArmMade) : Type 0 where
+  -- An arm of this life counts faults that come after that count.
   pub later : arm.boots ≡ boots → HasRisenBy 0 count arm.faults
 
 -- The arms were made past the counts at the ends of the start-ups of their lives.
@@ -36,17 +37,28 @@ AreLinkedBy c medium next (boot ∷ boots) (life ∷ lives) (count ∷ counts) =
 
 -- The arms of a run, each made past the count at the end of the start-up of its life, and in one of the lives so far.
 pub record MadeInRun (earlier : ℕ) (counts : List ℕ) (before now : List ArmMade) : Type 0 where
+  -- The arms that the run made.
   pub made : List ArmMade
+  -- They come after those that were there.
   pub is : now ≡ before ++ made
+  -- Each counts faults after the start-up of its life.
   pub past : ArePast earlier counts made
+  -- Each was made in one of the lives so far.
   pub so_far : All (λ arm. arm.boots ≤ earlier + length counts) made
 
 pub record IsLinkedBy (c : Config) (medium : Medium) (before now : BlocksState) (lives : List LifeView) : Type 0 where
+  -- The boots of the lives, the last one first.
   pub boots : List PowerUp
+  -- The count of faults at the end of each start-up.
   pub counts : List ℕ
+  -- The device has these boots after those that it had.
   pub is : now.device.bench.boots ≡ before.device.bench.boots ++ reverse boots
+  -- It has one more for each of them.
   pub many : length now.device.bench.boots ≡ length before.device.bench.boots + length boots
+  -- There is one count a boot.
   pub as_many : length counts ≡ length boots
+  -- Each life begins with what the one before left.
   pub linked : AreLinkedBy c medium (boot_of now) boots lives counts
+  -- Each arm that was made is one of these lives.
   pub arms : IfSome now.device.bench.arms (λ made. IsSomeAnd before.device.bench.arms
       (λ earlier. MadeInRun (length before.device.bench.boots) counts earlier made))

@@ -28,9 +28,13 @@ use Rattle.flt_life_model.specs.SoFar.{IsKeptSince}
 
 -- The unit stands for some calls from a base that fits a valid configuration.
 pub record IsUnderWay (c : Config) (unit : UnitView) : Type 0 where
+  -- The calls since power-up.
   pub past : History
+  -- The configuration is valid.
   pub valid : IsValid c
+  -- The base fits it.
   pub fits : Fits c unit.base
+  -- The unit is in the state that the calls lead to.
   pub stands : Stands (start_from c unit.base) past unit
 
 -- The answers of the deeds so far, the newest first, and that of a step more, where it touches the store.
@@ -46,22 +50,35 @@ deeds_told parts own = map (λ d. d.1) (reverse (deeds_in parts own []))
 
 -- An account has room for the calls, the answers and the responses of these steps.
 pub record HasRoomFor (account : Account) (actions : List Action) : Type 0 where
+  -- There are no more calls than a life may have.
   pub few : vec_len account.journal + sum_by call_count actions ≤ 131072
+  -- The journal has room for the calls.
   pub calls : vec_len account.journal + sum_by call_count actions ≤ vec_capacity account.journal
+  -- The list of answers has room for one a step.
   pub answers : vec_len account.replies.answers + length actions ≤ vec_capacity account.replies.answers
+  -- The list of responses has room for those of the steps.
   pub responses : vec_len account.replies.responses + sum_by response_size actions ≤ byte_room account.replies.responses
 
 -- What holds of a life, with the count of faults at the end of its start-up, and the arms that were made in it.
 pub record IsLived (c : Config) (before after : BlocksState) (life : LifeView) : Type 0 where
+  -- The count of faults at the end of its start-up.
   pub ended : ℕ
+  -- It was lived between these two moments of the device.
   pub holds : IsLifeBetween c (moment_of before) (moment_of after) ended life
+  -- No fault was counted away since then.
   pub later : HasRisenBy 0 ended after.device.faults
+  -- Its arms count faults after its start-up.
   pub arms : ArmsSince (length before.device.bench.boots + 1) ended before.device.bench.arms after.device.bench.arms
 
 module _ {B : Type 0} {b : Ghosts B} where
   pub record IsLiving (c : Config) (first : Generation) (journal : Journal) (told : List Told) (unit : UnitView) (store : Store B b) : Type 0 where
+    -- The unit is in the state that the calls lead to.
     pub stands : Stands (start_from c first.state) (calls_of journal) unit
+    -- The first generation that the store runs with.
     pub held : Generation
+    -- The second one.
     pub spare : Generation
+    -- The store runs with them.
     pub running : IsRunning c held spare store
+    -- They are no older than the last acknowledged one, and hold what was saved.
     pub kept : IsKeptSince c first journal told held spare

@@ -25,10 +25,16 @@ IsReadOf content _ = ⊥
 
 -- An application block was read, and this answered.
 pub record ReadsSo {B : Type 0} {b : Ghosts B} (c : Config) (block : ℕ) (store next_store : Store B b) (told : Told) : Type 0 where
+  -- It is the answer to a read of a block.
   pub is : IsGot told
+  -- A life that was living goes on with this answer.
   pub living : (first : Generation) (journal : Journal) (earlier : List Told) (unit : UnitView) → IsLiving c first journal earlier unit store
       → IsLiving c first journal (told ∷ earlier) unit next_store
+  -- If the answer is a failure, it has its cause.
   pub caused : (begun : ℕ) (earlier : List Told) → IsCaused c begun earlier store → IsCaused c begun (told ∷ earlier) next_store
+  -- The answer is what the block holds.
   pub found : IsReadOf ((driver_of store).value (application_number block)) told
+  -- No block changed.
   pub values : SameValues (driver_of store) (driver_of next_store)
+  -- The driver was called, and nothing else was done with it.
   pub keeps_driver : Follows (driver_of store) (driver_of next_store)

@@ -31,57 +31,81 @@ use Rattle.flt_lives.specs.Living.{IsLiving, IsUnderWay, deeds_told, with_answer
 
 -- A possible step that leaves the queue and the application blocks alone, and for whose arm the bench of a device has a place.
 pub record IsPlainStep (c : Config) (action : Action) (device : DeviceState) : Type 0 where
+  -- The step is possible.
   pub possible : IsPossible c action
+  -- It leaves the queue and the application blocks alone.
   pub plain : IsPlain action
+  -- The bench has a place for its arm.
   pub arms : device.bench.armed + arm_count action ≤ 64
 
 -- A journal has room for this many calls, and a number for the place of each.
 pub record HasCallsLeft {A : Type 0} (count : ℕ) (journal : Vec (Entry Op) A) : Type 0 where
+  -- The journal has room for the calls.
   pub calls : vec_len journal + count ≤ vec_capacity journal
+  -- The place of each fits four bytes.
   pub few : vec_len journal < 2 ^ 32
 
 -- At most this many calls were written after those of a journal, in the room that was there.
 pub record AddsCalls {A : Type 0} (count : ℕ) (before after : Vec (Entry Op) A) : Type 0 where
+  -- No more calls were written than the limit.
   pub calls : vec_len after ≤ vec_len before + count
+  -- The journal has the room that it had.
   pub room : vec_capacity after ≡ vec_capacity before
 
 -- Steps of one life gave these arms to the bench of a driver, and no more than this many.
 pub record GivesArms (arms : List Arm) (most : ℕ) (before after : BlocksState) : Type 0 where
+  -- The driver went on without a power-up.
   pub keeps_driver : GoesOn before after
+  -- The arms that were given are these.
   pub arms_made : WereGiven arms before.device.bench.arms after.device.bench.arms
+  -- They were no more than the limit.
   pub armed : after.device.bench.armed ≤ before.device.bench.armed + most
 
 -- No call and no answer yet.
 pub record IsNewAccount (account : Account) : Type 0 where
+  -- The journal is empty.
   pub calls : account.journal.items ≡ []
+  -- There is no answer.
   pub answers : told_in account.replies ≡ []
 
 module _ {F : _} {g : _} {B : Type 0} {b : Ghosts B} where
   -- A unit and a store between two steps: the unit has this configuration and stands for some calls, and the store runs.
   pub record AreOnTheirWay (c : Config) (unit : Machine F g) (store : Store B b) : Type 0 where
+    -- The unit has this configuration.
     pub same : config_of unit ≡ c
+    -- It is in the state that some calls lead to.
     pub under_way : IsUnderWay c (unit_seen unit)
+    -- The store runs.
     pub alive : IsAlive c store
 
   -- A step was made and has this answer: its calls are after the others, a life that was living goes on, and each failure has its cause.
   pub record AnswersStep {A : Type 0} (c : Config) (action : Action) (unit next_unit : Machine F g) (store next_store : Store B b)
       (before after : Vec (Entry Op) A) (told : Told) : Type 0 where
+    -- The calls of the step come after the others, and its answer is that of its machine at their place.
     pub calls_and_answer : (first : Generation) → Stands (start_from c first.state) (calls_of (reverse before.items)) (unit_seen unit)
         → IsCarriedOut (start_from c first.state) (reverse before.items) action (reverse after.items) told
+    -- A life that was living goes on with this answer.
     pub living : (first : Generation) (earlier : List Told) → IsLiving c first (reverse before.items) earlier (unit_seen unit) store
         → IsLiving c first (reverse after.items) (with_answer action told earlier) (unit_seen next_unit) next_store
+    -- If the answer is a failure, it has its cause.
     pub caused : (begun : ℕ) (earlier : List Told) → IsCaused c begun earlier store → IsCaused c begun (with_answer action told earlier) next_store
 
   -- The same, with the answer after those of an account.
   pub record TakesStep (c : Config) (action : Action) (unit next_unit : Machine F g) (store next_store : Store B b) (before after : Account) : Type 0 where
+    -- The answer of the step.
     pub last : Told
+    -- It comes after those before.
     pub answers : told_in after.replies ≡ told_in before.replies ++ last ∷ []
+    -- The step was made and has this answer.
     pub step : AnswersStep c action unit next_unit store next_store before.journal after.journal last
 
   -- A life had these parts and no other: it goes on, its calls and its answers are those of its steps, and each failure has its cause.
   pub record HasTakenSteps (c : Config) (parts : List (PartOf Step)) (unit next_unit : Machine F g) (store next_store : Store B b) (account : Account) : Type 0 where
+    -- The life goes on with the answers of its steps.
     pub living : (first : Generation) → IsLiving c first [] [] (unit_seen unit) store
         → IsLiving c first (reverse account.journal.items) (deeds_told parts (told_in account.replies)) (unit_seen next_unit) next_store
+    -- It has the calls of its steps in order, and each answer is that of its machine at its place.
     pub played : (first : Generation) → IsLiving c first [] [] (unit_seen unit) store
         → IsLife (start_from c first.state) parts (told_in account.replies) [] account.journal.items []
+    -- Each failure that it answers has its cause.
     pub caused : (begun : ℕ) → IsCaused c begun [] store → IsCaused c begun (deeds_told parts (told_in account.replies)) next_store

@@ -11,13 +11,18 @@ given_of a = a.given.items
 
 -- A row names the number that is at its index.
 pub record IsRowOf (numbers : List ℕ) (row : Row) : Type 0 where
+  -- The index is that of a number.
   pub within : row.index < length numbers
+  -- It is the index of the row's number.
   pub is : slice_index numbers row.index ≡ row.number
 
 -- The rows are in ascending order of their numbers, each names a number at its index, and each number has one row.
 pub record IsIndex (numbers : List ℕ) (rows : List Row) : Type 0 where
+  -- The rows ascend by their numbers.
   pub sorted : IsNonDecreasingBy (λ row. row.number) rows
+  -- Each row names the number at its index.
   pub named : All (IsRowOf numbers) rows
+  -- Each number has a row.
   pub whole : All (Contains (map (λ row. row.number) rows)) numbers
 
 -- The rows are an index of the numbers.

@@ -19,7 +19,9 @@ record_found block (Some place) = Some (record_at block place)
 
 -- A record at this place is below a page, and has a length of its kind.
 pub record IsPlaceWithin (bound : ℕ) (place : RecordPlace) : Type 0 where
+  -- The record ends at that page or before it.
   pub below : place.page + record_pages place.length ≤ bound
+  -- Its length is one of its kind.
   pub kind : is_length place.valid place.length ≡ true
 
 -- The bytes of the record at a place.
@@ -33,7 +35,9 @@ pages_found (Some place) = record_pages place.length
 
 -- A record at this place is in the log that ends at a page.
 pub record IsInLog (end : ℕ) (place : RecordPlace) : Type 0 where
+  -- The record comes after the gates.
   pub begun : 2 ≤ place.page
+  -- It ends where the log ends, or before.
   pub within : IsPlaceWithin end place
 
 -- What the record at a place holds, or nothing yet.
@@ -43,7 +47,9 @@ content_at pages (Some place) = record_content place.valid (record_bytes_at page
 
 -- A block of this content has its current record at this place of the log that ends at a page, or has none.
 pub record IsAt (pages : List (List ℕ)) (end : ℕ) (content : Content) (found : Option RecordPlace) : Type 0 where
+  -- The content is what is read at this place.
   pub holds : content ≡ content_at pages found
+  -- If there is a place, it is in the log.
   pub inside : IfSome found (λ place. IsInLog end place)
 
 -- The place of each number, in the order of the numbers, gives what its block holds.
@@ -52,7 +58,11 @@ TellsPlaces numbers places pages end value = (k : ℕ) → k < length numbers �
 
 -- The place of a block in the table.
 pub record IsPlaceOf (numbers : List ℕ) (places : List (Option RecordPlace)) (block : ℕ) (found : Option RecordPlace) : Type 0 where
+  -- The index of the block's number.
   pub index : ℕ
+  -- It is an index of the table.
   pub within : index < length numbers
+  -- The number there is the block's.
   pub number : slice_index_or numbers index 0 ≡ block
+  -- The place there is this one.
   pub place : slice_index_or places index None ≡ found

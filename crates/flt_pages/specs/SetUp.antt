@@ -6,7 +6,9 @@ use Rattle.flt_sector_model.specs.Blocks.{current}
 
 -- The first sector is the current one with the number 1, and its log is empty.
 pub record IsFresh (used : ℕ) (image : List (List (List ℕ))) : Type 0 where
+  -- The first sector is the current one, with the number 1.
   pub current : current used image ≡ Ok (Some record { sector = 0; sequence = 1 })
+  -- It is blank after its gates.
   pub blank : AreBlank (sector_at image 0) 2 used
 
 -- No sector is valid, or the first is and its log is empty.

@@ -28,8 +28,13 @@ IsWithinOwn c before after = (number : ℕ) → (after number ≡ before number)
 
 -- Calls that wrote records of at most 96 bytes, each fault of which has its cause.
 pub record StoreWrites {T : Type 0} (before after : BlocksState) (result : Result T BlockFault) : Type 0 where
+  -- The driver was called, and nothing else was done with it.
   pub keeps_driver : Follows before after
+  -- They fail by the flash only if three tries failed.
   pub flash : IsErrOf result Flash → FailsThrice before after
+  -- They find no room only if a record of at most 96 bytes has none.
   pub full : (live needed : ℕ) → IsErrOf result (Full live needed) → (size : ℕ) × (size ≤ 96) × IsFull after size live needed
+  -- They find no sequence number only if the driver has none left.
   pub stuck : IsErrOf result SequenceSpent → IsStuck after
+  -- They find no damage on a driver that was mounted.
   pub mounted : IsTrue before.has_mounted → (sector page : ℕ) → IsErrOf result (Damaged sector page) → ⊥

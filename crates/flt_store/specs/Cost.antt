@@ -15,7 +15,9 @@ SwitchesWithin room most = (size : ℕ) → size ≤ 96 → switch_cost room siz
 -- Writes on a driver that was not stale, in which no operation failed: the pages of their records, where no sector was erased, and
 -- a limit in any case, where each costs at most this many.
 pub record Spends (most : ℕ) (before after : BlocksState) (pages limit : ℕ) : Type 0 where
+  -- Without a fault or an erase they cost the pages of their records.
   pub at_the_end : IsFalse before.is_stale → NoFault before after → NoErase before after → CostsAtMost pages before after
+  -- Without a fault they cost no more than the limit.
   pub at_most : SwitchesWithin before.room most → IsFalse before.is_stale → NoFault before after → CostsAtMost limit before after
 
 -- The weight of a block where it is written for the next commit, else 0.

@@ -21,11 +21,17 @@ use Rattle.flt_restore.specs.Restored.{IsMarkDue}
 -- Among these calls three writes in a row of these bytes to a number were failed by the flash, and of all its failures the last one was of
 -- this number.
 pub record FailsToWrite (number : ℕ) (raw : List ℕ) (before after : BlocksState) : Type 0 where
+  -- The driver before the three writes.
   pub first : BlocksState
+  -- The driver after them.
   pub last : BlocksState
+  -- It came to the first by calls of the driver.
   pub earlier : Follows before first
+  -- The three writes were failed by the flash.
   pub fails : GivesInAJob number (bytes raw) (length raw) first last (Err Flash)
+  -- It went on from the last by calls of the driver.
   pub later : Follows last after
+  -- The last failure of all was of this number.
   pub named : after.last_failed ≡ Some number
 
 -- The mark had to be written, and could not be.
@@ -35,14 +41,23 @@ IsMarkUnwritten c before after = IsMarkDue (mark_of c) (before.value mark_number
 -- The other copy of the commit could be neither read nor written, or holds other bytes and could not be written; before that nothing was
 -- written but the mark.
 pub record IsCommitUnmended (before after : BlocksState) : Type 0 where
+  -- The copy that was read, the first or the second.
   pub copy : ℕ
+  -- It is 1 or more.
   pub least : 1 ≤ copy
+  -- It is 2 or less.
   pub most : copy ≤ 2
+  -- Its bytes.
   pub raw : List ℕ
+  -- It holds them.
   pub holds : before.value (number_of commit_id (copy - 1)) ≡ bytes raw
+  -- The driver before the other copy was tried.
   pub first : BlocksState
+  -- It came there by calls of the driver.
   pub earlier : Follows before first
+  -- Until then no block but the mark changed.
   pub same : OthersKept mark_number before first
+  -- Then the other copy could not be made equal.
   pub unmended : IsUnmended first after (number_of commit_id (2 - copy)) (bytes raw)
 
 -- What a generation needs in the image could not be written.

@@ -7,7 +7,9 @@ use Rattle.flt_store_model.specs.Holding.{Generation, IsSound, OldOrNew, SameApp
 
 -- The driver after such a call: no application block has changed, and after Ok it is not stale.
 pub record LeavesDriver {T E : Type 0} (before after : BlocksState) (result : Result T E) : Type 0 where
+  -- No application block changed.
   pub applications : SameApplications before.value after.value
+  -- After Ok the driver is not stale.
   pub not_stale : OnOk result (IsFalse after.is_stale)
   -- It was called and no more: no count fell, and its room is what it was.
   pub calls : Follows before after

@@ -38,15 +38,22 @@ module _ {B : Type 0} {b : Ghosts B} where
   -- A start-up that answered this number: the image had no fault and a sequence number left, and what was judged is the state under
   -- the number, which both copies of the commit now name.
   pub record Starts (c : Config) (number : ℕ) (state : Persist) (before after : Store B b) : Type 0 where
+    -- The driver found no damage.
     pub undamaged : (driver_of before).damage ≡ None
+    -- The state under its number is what was judged of the image.
     pub judged : IsJudged c (driver_of before) (driver_of after) (Ok (numbered number state))
+    -- The driver had a sequence number left.
     pub usable : IsFalse (driver_of before).is_spent
+    -- The store runs with this generation alone.
     pub running : IsRunning c (numbered number state) (numbered number state) after
+    -- The store is settled.
     pub settled : IsTrue (is_settled after)
 
   -- A start-up judged this of an image without a fault of the driver.
   pub record Judges (c : Config) (before after : Store B b) (judged : Result Generation Fault) : Type 0 where
+    -- The driver found no damage.
     pub undamaged : (driver_of before).damage ≡ None
+    -- It is what the image is judged to hold.
     pub is : IsJudged c (driver_of before) (driver_of after) judged
 
   -- A fault comes by its cause: three faults of the flash, a fault of the driver's image, what was judged, or the last sequence number

@@ -24,11 +24,17 @@ NamesOf c value (Some commit) g = CommitNames c value commit g
 
 -- The mark is there, and both copies of the commit, or neither before the first save, name the generation, by the same bytes.
 pub record IsStarted (c : Config) (value : ℕ → Content) (commit : Option Commit) (g : Generation) : Type 0 where
+  -- The mark of the configuration is there.
   pub mark : HasMark c value
+  -- The first copy holds the commit.
   pub first : IsContentOf commit (value first_commit)
+  -- The second copy holds the same bytes.
   pub equal : only_bytes (value second_commit) ≡ value first_commit
+  -- The blocks that the commit names hold the generation.
   pub names : NamesOf c value commit g
+  -- Each application block holds what such a block may hold.
   pub applications : (block : ℕ) → block < applications → IsTrue (is_application (value (application_number block)))
+  -- No block is longer than the configuration allows.
   pub excess : IsBorne c value
 
 -- The generation that a save of this state makes.

@@ -19,11 +19,17 @@ module _ {M S O R B : Type 0} (m : Ghosts M S O R B) where
   -- The slot has the machine and the journal of all calls that were served, those of each seat that calls in its order; and the
   -- machine stands for the lock's start and the journal's operations.
   pub record HoldsReplay (start : S) (s : State (Option (VaultOf m)) (View S O)) : Type 0 where
+    -- The machine with its journal.
     pub vault : VaultOf m
+    -- It is in the slot.
     pub there : get_elem? s.homes 0 ≡ some (some (Some vault))
+    -- Its machine is in a state that the start and the journal's operations lead to.
     pub replay : ∥ m.stands_for vault.machine start (ops_of (journal_of vault)) ∥₁
+    -- The next ticket.
     pub next : ℕ
+    -- The lock serves the ticket after the last entry of the journal.
     pub served : s.words ≡ next ∷ length (journal_of vault) ∷ []
+    -- Each seat's own calls are those that the journal has under its number.
     pub mine : (j : ℕ) (v : View S O) → get_elem? s.views j ≡ some v → is_spent v.stage ≡ false → calls_of v.number (journal_of vault) ≡ v.mine
 
   -- At every moment at which a lock is free, the machine under it is the replay of the calls accepted so far.

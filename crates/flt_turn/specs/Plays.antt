@@ -21,24 +21,40 @@ module _ {W S O : Type 0} where
 module _ {M S O R B : Type 0} {m : Ghosts M S O R B} where
   -- The vault that a seat takes out at the turn of this ticket.
   pub record IsTakenOut (ticket : ℕ) (v : View S O) (vault : VaultOf m) : Type 0 where
+    -- It began with the seat's start.
     pub start_is : start_of vault ≡ v.start
+    -- It has room for one more call.
     pub roomy : (length (journal_of vault) < v.room) × (v.room ≤ room_of vault)
+    -- The room for calls fits a word.
     pub small : v.room < 2 ^ 32
+    -- Its journal has as many calls as tickets were served before this one.
     pub place : length (journal_of vault) ≡ ticket
+    -- What the seat knows is a prefix of its journal.
     pub seen : IsPrefix v.seen (journal_of vault)
+    -- So is all that seats knew which it joined.
     pub olds : All (λ old. IsPrefix old (journal_of vault)) v.olds
+    -- Its journal has the seat's own calls under the seat's number.
     pub mine : calls_of v.number (journal_of vault) ≡ v.mine
+    -- What the seat knows has all of them.
     pub own : calls_of v.number v.seen ≡ v.mine
+    -- The machine admits each operation of its journal.
     pub admitted : All (λ e. m.admits v.start e.op) (journal_of vault)
 
   -- The seat has the turn, and the vault that it will give back has one more call in its journal, which is the seat's.
   pub record IsTurn (v : View S O) (vault : VaultOf m) : Type 0 where
+    -- The ticket that is served.
     pub ticket : ℕ
+    -- The operation of the call.
     pub op : O
+    -- The seat has the turn of this ticket.
     pub stage_is : v.stage ≡ Serving ticket
+    -- The journal is what the seat knew and this call.
     pub longer : journal_of vault ≡ v.seen ++ entry v.number op ∷ []
+    -- The vault began with the seat's start.
     pub start_is : start_of vault ≡ v.start
+    -- Its journal has the room that the seat was promised.
     pub roomy : v.room ≤ room_of vault
+    -- The machine admits the operation.
     pub allowed : m.admits v.start op
 
   -- If its ticket is served, the seat takes the vault out, and knows its journal.
