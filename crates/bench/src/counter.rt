@@ -32,10 +32,6 @@ impl Machine for Counter {
 
     type Op = u32;
 
-    type Reply = u64;
-
-    type Out = ();
-
     ghost some_start = { 0 };
 
     ghost start = { λ _. 0 };
@@ -43,16 +39,22 @@ impl Machine for Counter {
     ghost admits = { λ _ _. Unit {0} };
 
     ghost stands_for = { λ counter _ ops. counter.count ≡ length ops % 2 ^ 64 };
-
-    ghost answer = { λ _ ops _. (length ops + 1) % 2 ^ 64 };
-
-    ghost written = { λ _ _ _ out. out };
 }
 
-impl Stepper for Counter {
+impl Stepper<()> for Counter {
     type Context = ();
 
+    type Kind = u64;
+
+    type Whole = u64;
+
     ghost serves = { λ _ _. Unit {0} };
+
+    ghost suits = { λ _. Unit {0} };
+
+    ghost whole = { λ count _. count };
+
+    ghost answer = { λ _ ops _. (length ops + 1) % 2 ^ 64 };
 
     fn step(&mut self, _context: &(), _op: &u32, _out: &mut ()) -> u64 {
         self.add()

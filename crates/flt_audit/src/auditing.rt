@@ -71,7 +71,7 @@ fn judge_trace(
     };
     let mut unit = Unit::make(Dem::make(config, dids));
     unit.boot(&base);
-    match first_unlike(alloc, &mut unit, base, &calls, &trace.answers)? {
+    match first_unlike(alloc, &mut unit, &calls, &trace.answers)? {
         None => Ok(Audited::AllDue),
         Some(place) => Ok(Audited::Differs(place)),
     }

@@ -10,7 +10,6 @@ ghost use Rattle.flt_trace.specs.Trace.{texts_seen};
 ghost use Rattle.flt_audit.specs.Audit.{unlike_from};
 
 use arrayvec::ArrayVec;
-use flt_config::Persist;
 use flt_dcm::Unit;
 use flt_life_model::Entry;
 use flt_model::{Op, RESPONSE};
@@ -18,11 +17,10 @@ use flt_report::put_reply;
 use std::alloc::{AllocError, Global};
 
 /// The first place whose text is not that of the answer to its call, if there is one. Each call is made once, on the one machine, and no
-/// further than to that place. The state that a snapshot takes is written over `scratch`.
+/// further than to that place.
 pub(crate) fn first_unlike(
     alloc: Global,
     unit: &mut Unit,
-    mut scratch: Persist,
     calls: &[Entry<Op>],
     texts: &[&str],
 ) -> Result<Option<usize>, AllocError>
@@ -34,7 +32,7 @@ pub(crate) fn first_unlike(
     let mut response = ArrayVec::<u8, RESPONSE>::new();
     let mut text = Vec::new(alloc);
     for place in 0..calls.len() {
-        let kind = unit.apply_into(&calls[place].op, &mut scratch, &mut response);
+        let kind = unit.apply_into(&calls[place].op, &mut response);
         text.clear();
         put_reply(kind, &response, &mut text)?;
         if text.as_slice() != texts[place].as_bytes() {

@@ -13,6 +13,8 @@ use Rattle.flt_model.specs.declared.call.Op.TheVariants as ops
 use Rattle.flt_dem.specs.View.{event_seen}
 use Rattle.flt_dcm.specs.Standard.{StandardBits, SaysStandard}
 use Rattle.flt_dcm.specs.Unit.{UnitView, Stands}
+use Rattle.flt_dem.proofs.IdleLemmas.{stands_idle}
+use Rattle.flt_dcm.proofs.SessionLemmas.{sessions_kept}
 use Rattle.flt_dcm.proofs.StandardLemmas.{bits_behind_a_clear, bits_from_the_start}
 
 -- ---- a call that is read
@@ -26,6 +28,22 @@ first_is_service (service ∷ rest) d some = refl
 abbrev pub tester_of : Op → ℕ
 tester_of (ops.Request tester bytes) = tester
 tester_of _ = 0
+
+-- ---- calls that change nothing
+
+pub stands_snapshot : (life : Start) (past : History) (unit : UnitView) → Stands life past unit → Stands life (ops.Snapshot ∷ past) unit
+stands_snapshot life past unit s = record {
+  dem = stands_idle life past unit.dem ops.Snapshot tt s.dem;
+  sessions = sessions_kept past ops.Snapshot unit.sessions tt s.sessions;
+  base = s.base;
+}
+
+pub stands_saved : (life : Start) (past : History) (generation : _) (unit : UnitView) → Stands life past unit → Stands life (ops.Saved generation ∷ past) unit
+stands_saved life past generation unit s = record {
+  dem = stands_idle life past unit.dem (ops.Saved generation) tt s.dem;
+  sessions = sessions_kept past (ops.Saved generation) unit.sessions tt s.sessions;
+  base = s.base;
+}
 
 -- ---- the six bits
 

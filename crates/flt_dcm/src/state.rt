@@ -265,8 +265,17 @@ impl UnitState {
         )
     }
 
-    /// Carries out a call, and answers it, as `apply_into` does, for callers that need no durable state: a snapshot writes none.
-    pub fn apply_alone_into(
+    /// Writes the durable state to `out`: what a snapshot writes. That changes nothing.
+    pub fn persist(&self, out: &mut Persist)
+        ensures saved { (life : Start) (past : History) → Stands life past self.now → out.new ≡ saved_after life past }
+        ensures stands { Takes ops.Snapshot self.now self.now }
+    {
+        self.dem.persist(out);
+    }
+
+    /// Carries out a call, and answers it. A unit that runs is changed or asked only in this way. The bytes of a response
+    /// replace what `response` holds. What a snapshot writes is written by `persist`.
+    pub fn step(
         &mut self,
         dids: &DidTable<DID_ROWS>,
         op: &Op,
@@ -305,30 +314,8 @@ impl UnitState {
         }
     }
 
-    /// Carries out a call, and answers it. A unit that runs is changed or asked only in this way. The bytes of a response
-    /// replace what `response` holds. A snapshot writes the durable state to `out`; nothing else writes it.
-    pub fn apply_into(
-        &mut self,
-        dids: &DidTable<DID_ROWS>,
-        op: &Op,
-        out: &mut Persist,
-        response: &mut ArrayVec<u8, RESPONSE>,
-    ) -> ReplyKind
-        requires served { Serves (dids_of dids.now) self.old.dem.durable.config.events.items }
-        requires admitted { IsAdmitted self.old.dem.durable.config op.now }
-        ensures applied { AppliesCall op.now self.old self.new (reply_with result response.new.items) }
-        ensures unsent { ¬ IsTesterCall op.now → response.new ≡ response.old }
-        ensures state { WritesState op.now self.old out.old out.new }
-        ensures standard { (life : Start) (past : History) → Stands life past self.old → SaysStandard life (op.now ∷ past) self.new.dem }
-    {
-        match op {
-            Op::Snapshot => self.dem.persist(out),
-            _ => {}
-        }
-        self.apply_alone_into(dids, op, response)
-    }
-
-    /// Carries out a call, and answers it, as `apply_into` does, with the bytes of a response in the answer.
+    /// Carries out a call, and answers it, with the bytes of a response in the answer. A snapshot writes the durable state to
+    /// `out`; nothing else writes it.
     pub fn apply(&mut self, dids: &DidTable<DID_ROWS>, op: &Op, out: &mut Persist) -> Reply
         requires served { Serves (dids_of dids.now) self.old.dem.durable.config.events.items }
         requires admitted { IsAdmitted self.old.dem.durable.config op.now }
@@ -336,8 +323,11 @@ impl UnitState {
         ensures state { WritesState op.now self.old out.old out.new }
         ensures standard { (life : Start) (past : History) → Stands life past self.old → SaysStandard life (op.now ∷ past) self.new.dem }
     {
+        if let Op::Snapshot = op {
+            self.persist(out);
+        }
         let mut response = ArrayVec::new();
-        let kind = self.apply_into(dids, op, out, &mut response);
+        let kind = self.step(dids, op, &mut response);
         kind.with(response)
     }
 }

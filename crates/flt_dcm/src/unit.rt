@@ -3,12 +3,13 @@ ghost use Rattle.std.specs.Prelude.{◌≡◌, [], ◌∷◌};
 ghost use Rattle.std.proofs.Props.{props};
 ghost use Rattle.flt_config.specs.Durable.{Fits};
 ghost use Rattle.flt_model.specs.Start.{Start, History, fresh};
-ghost use Rattle.flt_model.specs.Answer.{answer};
+ghost use Rattle.flt_model.specs.Durable.{saved_after};
+ghost use Rattle.flt_model.specs.declared.call.Op.TheVariants as ops;
 ghost use Rattle.flt_did.specs.Table.{dids_of};
 ghost use Rattle.flt_did.specs.Serves.{Serves};
 ghost use Rattle.flt_dem.specs.Dem.{manager_config as dem_config, manager_table as dem_table};
 ghost use Rattle.flt_dcm.specs.Standard.{SaysStandard};
-ghost use Rattle.flt_dcm.specs.Unit.{Stands, IsAdmitted, IsTesterCall};
+ghost use Rattle.flt_dcm.specs.Unit.{Stands, Takes, IsAdmitted, IsTesterCall};
 ghost use Rattle.flt_dcm.specs.Applied.{AppliesCall, WritesState};
 ghost use Rattle.flt_dcm.specs.ReplyKind.{reply_with};
 
@@ -65,25 +66,28 @@ impl Unit {
         self.state.config()
     }
 
+    /// Writes the durable state to `out`: what a snapshot writes. That changes nothing.
+    pub fn persist(&self, out: &mut Persist)
+        ensures saved { (life : Start) (past : History) → Stands life past (unit_seen self.now) → out.new ≡ saved_after life past }
+        ensures stands { Takes ops.Snapshot (unit_seen self.now) (unit_seen self.now) }
+    {
+        self.state.persist(out);
+    }
+
     /// Carries out a call, and answers it. A unit that runs is changed or asked only in this way. The bytes of a response
-    /// replace what `response` holds. A snapshot writes the durable state to `out`; nothing else writes it.
-    pub fn apply_into(
-        &mut self,
-        op: &Op,
-        out: &mut Persist,
-        response: &mut ArrayVec<u8, RESPONSE>,
-    ) -> ReplyKind
+    /// replace what `response` holds. What a snapshot writes is written by `persist`.
+    pub fn apply_into(&mut self, op: &Op, response: &mut ArrayVec<u8, RESPONSE>) -> ReplyKind
         requires admitted { IsAdmitted (config_of self.old) op.now }
         ensures dids { table_of self.new ≡ table_of self.old }
         ensures applied { AppliesCall op.now (unit_seen self.old) (unit_seen self.new) (reply_with result response.new.items) }
         ensures unsent { ¬ IsTesterCall op.now → response.new ≡ response.old }
-        ensures state { WritesState op.now (unit_seen self.old) out.old out.new }
         ensures standard { (life : Start) (past : History) → Stands life past (unit_seen self.old) → SaysStandard life (op.now ∷ past) (unit_seen self.new).dem }
     {
-        self.state.apply_into(&self.dids, op, out, response)
+        self.state.step(&self.dids, op, response)
     }
 
-    /// Carries out a call, and answers it, as `apply_into` does, with the bytes of a response in the answer.
+    /// Carries out a call, and answers it, with the bytes of a response in the answer. A snapshot writes the durable state to
+    /// `out`; nothing else writes it.
     pub fn apply(&mut self, op: &Op, out: &mut Persist) -> Reply
         requires admitted { IsAdmitted (config_of self.old) op.now }
         ensures dids { table_of self.new ≡ table_of self.old }

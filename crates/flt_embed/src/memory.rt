@@ -304,12 +304,7 @@ impl Memory {
         ensures generation { self.new.generation ≡ self.old.generation }
         ensures config { self.new.config ≡ self.old.config }
     {
-        let reply = self.unit.apply_into(
-            dids,
-            op,
-            &mut self.buffers.state,
-            &mut self.buffers.response,
-        );
+        let reply = self.unit.step(dids, op, &mut self.buffers.response);
         StepAnswer::Dem(Answer { place: 0, reply })
     }
 
@@ -339,12 +334,7 @@ impl Memory {
         ensures refused { IfErr result (λ fault. ChangesNothing fault → self.new ≡ self.old) }
     {
         let mounted = start(alloc, &self.config, &self.image)?;
-        self.unit.apply_into(
-            dids,
-            &Op::Snapshot,
-            &mut self.buffers.state,
-            &mut self.buffers.response,
-        );
+        self.unit.persist(&mut self.buffers.state);
         if !fits(&self.config, &self.buffers.state) {
             return Err(Fault::Flash);
         }

@@ -18,11 +18,11 @@ use crate::drain::drain;
 use crate::gate::Gate;
 use crate::locks::{Common, Locks, Seats};
 use arrayvec::ArrayVec;
-use flt_config::{ValidConfig, initial};
+use flt_config::ValidConfig;
 use flt_flash::{Arm, Blocks};
 use flt_life_model::{Action, LaneReplies, StepAnswer, action_of};
 use flt_model::RESPONSE;
-use flt_shared::{DemLock, DemSeat};
+use flt_shared::{DemLock, DemSeat, no_state};
 use flt_step::Step;
 use flt_store::Store;
 use std::sync::Wait;
@@ -85,8 +85,8 @@ fn save<R: Wait, B: Blocks + Drop>(
     ensures takes { (jobs : Jobs) → TakesStep config.now seat.old seat.new jobs jobs steps.Save replies.old replies.new store.old store.new }
     ensures lock { IsSeatOf dem.now seat.new }
 {
-    let mut state = initial(config);
-    let Ok(_taken) = dem.snapshot(rt, seat, &mut state) else {
+    let mut state = no_state();
+    let Ok(_taken) = dem.snapshot_into(rt, seat, &mut state) else {
         unreachable!()
     };
     match store.save(config, &state) {

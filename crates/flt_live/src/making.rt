@@ -33,14 +33,10 @@ fn save<D: Blocks + Drop>(
     ensures alive { IsAlive config.now store.new }
     ensures saves { (response : List ℕ) → SavesSo config.now (unit_seen unit.old) (unit_seen unit.new) store.old store.new (told_with response result) }
 {
-    take_snapshot(unit, buffers);
+    take_snapshot(unit, &mut buffers.state);
     match store.save(config, &buffers.state) {
         Ok(generation) => {
-            unit.apply_into(
-                &Op::Saved { generation },
-                &mut buffers.state,
-                &mut buffers.response,
-            );
+            unit.apply_into(&Op::Saved { generation }, &mut buffers.response);
             StepAnswer::Saved(generation)
         }
         Err(fault) => StepAnswer::SaveFailed(fault),
@@ -67,7 +63,7 @@ pub(crate) fn make<D: Blocks + Drop>(
 {
     match action {
         Action::Call(op) => {
-            let reply = unit.apply_into(&op, &mut buffers.state, &mut buffers.response);
+            let reply = unit.apply_into(&op, &mut buffers.response);
             StepAnswer::Dem(Answer { place: 0, reply })
         }
         Action::Queue(op) => {

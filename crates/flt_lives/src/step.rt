@@ -8,7 +8,7 @@ ghost use Rattle.flt_model.specs.Durable.{saved_after};
 ghost use Rattle.flt_model.specs.declared.call.Op.TheVariants as ops;
 ghost use Rattle.flt_store_model.specs.Holding.{SameApplications};
 ghost use Rattle.flt_dcm.specs.ReplyKind.{reply_with};
-ghost use Rattle.flt_dcm.specs.Unit.{Stands, IsAdmitted, IsTesterCall};
+ghost use Rattle.flt_dcm.specs.Unit.{Stands, Takes, IsAdmitted, IsTesterCall};
 ghost use Rattle.flt_dcm.specs.Whole.{config_of, unit_seen};
 ghost use Rattle.flt_store.specs.Store.{driver_of};
 ghost use Rattle.flt_life_model.specs.declared.action.Action.TheVariants as actions;
@@ -20,7 +20,7 @@ ghost use Rattle.flt_lives.specs.Living.{IsUnderWay};
 ghost use Rattle.flt_lives.specs.Steps.{AddsCalls, AnswersStep, AreOnTheirWay, GivesArms, HasCallsLeft, IsPlainStep};
 
 use crate::buffers::Buffers;
-use flt_config::ValidConfig;
+use flt_config::{Persist, ValidConfig};
 use flt_dcm::{ReplyKind, Unit};
 use flt_flash::Blocks;
 use flt_life_model::{Action, Answer, Entry, StepAnswer};
@@ -38,19 +38,17 @@ fn call(unit: &mut Unit, op: &Op, buffers: &mut Buffers) -> ReplyKind
         → reply_with result buffers.new.response.items ≡ answer life past op.now }
     ensures no_response { ¬ IsTesterCall op.now → reply_size (reply_with result buffers.new.response.items) ≡ 0 }
 {
-    unit.apply_into(op, &mut buffers.state, &mut buffers.response)
+    unit.apply_into(op, &mut buffers.response)
 }
 
-/// Takes the durable state.
-pub fn take_snapshot(unit: &mut Unit, buffers: &mut Buffers)
-    requires under_way { IsUnderWay (config_of unit.old) (unit_seen unit.old) }
-    ensures config { config_of unit.new ≡ config_of unit.old }
-    ensures under_way { IsUnderWay (config_of unit.old) (unit_seen unit.new) }
-    ensures stands { (life : Start) (past : History) → Stands life past (unit_seen unit.old) → Stands life (ops.Snapshot ∷ past) (unit_seen unit.new) }
-    ensures taken { (life : Start) (past : History) → Stands life past (unit_seen unit.old) → buffers.new.state ≡ saved_after life past }
-    ensures fits { Fits (config_of unit.old) buffers.new.state }
+/// Takes the durable state, in place of the one that `state` holds.
+pub fn take_snapshot(unit: &Unit, state: &mut Persist)
+    requires under_way { IsUnderWay (config_of unit.now) (unit_seen unit.now) }
+    ensures stands { Takes ops.Snapshot (unit_seen unit.now) (unit_seen unit.now) }
+    ensures taken { (life : Start) (past : History) → Stands life past (unit_seen unit.now) → state.new ≡ saved_after life past }
+    ensures fits { Fits (config_of unit.now) state.new }
 {
-    unit.apply_into(&Op::Snapshot, &mut buffers.state, &mut buffers.response);
+    unit.persist(state);
 }
 
 /// Writes a call of the only lane after those of a journal.
@@ -81,7 +79,7 @@ fn save<D: Blocks + Drop>(
     ensures applications { SameApplications (driver_of store.old).value (driver_of store.new).value }
     ensures gives { GivesArms [] 0 (driver_of store.old) (driver_of store.new) }
 {
-    take_snapshot(unit, buffers);
+    take_snapshot(unit, &mut buffers.state);
     write(Op::Snapshot, journal);
     match store.save(config, &buffers.state) {
         Ok(generation) => {

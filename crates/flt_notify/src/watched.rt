@@ -4,7 +4,7 @@ ghost use Rattle.flt_model.specs.Byte.{is_bit_set};
 ghost use Rattle.flt_model.specs.Start.{Start, History};
 ghost use Rattle.flt_did.specs.Serves.{Serves};
 ghost use Rattle.flt_did.specs.Table.{dids_of};
-ghost use Rattle.flt_dcm.specs.Unit.{IsAdmitted, Stands, written};
+ghost use Rattle.flt_dcm.specs.Unit.{IsAdmitted, Stands};
 ghost use Rattle.flt_shared.specs.Boxed.{config_in, unit_in};
 ghost use Rattle.flt_shared.specs.Call.{MayBeAsked, reply_after, with_response};
 ghost use Rattle.flt_shared.specs.Start.{some_start, start_of};
@@ -17,11 +17,11 @@ use crate::subscribers::Subscribers;
 use crate::table::SubTable;
 use crate::values::Values;
 use arrayvec::ArrayVec;
-use flt_config::{EVENTS, EventState, Persist};
+use flt_config::{EVENTS, EventState};
 use flt_did::{DID_ROWS, DidTable};
 use flt_model::RESPONSE;
 use flt_shared::{BoxedUnit, DemStart, Guarded, Op, Reply, ReplyKind};
-use flt_turn::{Machine, StepInto, Stepper};
+use flt_turn::{Machine, Stepper};
 use std::alloc::{AllocError, Global};
 
 /// What is lent to each step of a watched machine: the functions that it calls, which are only read.
@@ -182,10 +182,6 @@ impl Machine for Watched {
 
     type Op = Op;
 
-    type Reply = Reply;
-
-    type Out = Persist;
-
     ghost some_start = { some_start };
 
     ghost start = { λ watched. start_of (watched_unit watched) };
@@ -193,38 +189,30 @@ impl Machine for Watched {
     ghost admits = { MayBeAsked };
 
     ghost stands_for = { λ watched start ops. Watches start (reverse ops) watched };
-
-    ghost answer = { reply_after };
-
-    ghost written = { λ start ops op out. written start (reverse ops) op out };
 }
 
-impl Stepper for Watched {
+impl Stepper<ArrayVec<u8, RESPONSE>> for Watched {
     type Context = Lent;
+
+    type Kind = ReplyKind;
+
+    type Whole = Reply;
 
     ghost serves = { λ lent start. Serves (dids_of lent.dids) start.config.events.items };
 
-    fn step(&mut self, lent: &Lent, op: &Op, out: &mut Persist) -> Reply {
-        let reply = self.guarded.step(&lent.dids, op, out);
-        self.tell(&lent.subscribers, op);
-        reply
-    }
-}
+    ghost suits = { λ _. Unit {0} };
 
-impl StepInto for Watched {
-    type Kind = ReplyKind;
+    ghost whole = { with_response };
 
-    type Payload = ArrayVec<u8, RESPONSE>;
+    ghost answer = { reply_after };
 
-    ghost reply_with = { with_response };
-
-    fn step_into(
+    fn step(
         &mut self,
         lent: &Lent,
         op: &Op,
         response: &mut ArrayVec<u8, RESPONSE>,
     ) -> ReplyKind {
-        let kind = self.guarded.step_into(&lent.dids, op, response);
+        let kind = self.guarded.step(&lent.dids, op, response);
         self.tell(&lent.subscribers, op);
         kind
     }

@@ -7,7 +7,7 @@ ghost use Rattle.flt_queue.specs.Stands.{QueueStands};
 
 use crate::job::{Job, QueueKind, QueueOp, QueueReply};
 use crate::queue::JobQueue;
-use flt_turn::{Machine, StepInto, Stepper};
+use flt_turn::{Machine, Stepper};
 
 /// The queue of write jobs. It is boxed, since it goes out of the lock's slot and back with each call.
 #[derive(Drop)]
@@ -20,10 +20,6 @@ impl Machine for BoxedQueue {
 
     type Op = QueueOp;
 
-    type Reply = QueueReply;
-
-    type Out = ();
-
     ghost some_start = { 0 };
 
     ghost start = { λ guarded. guarded.queue.value.blocks };
@@ -31,32 +27,25 @@ impl Machine for BoxedQueue {
     ghost admits = { IsQueueCallFor };
 
     ghost stands_for = { λ guarded blocks ops. QueueStands blocks (reverse ops) guarded.queue.value };
-
-    ghost answer = { reply_after };
-
-    ghost written = { λ _ _ _ out. out };
 }
 
-impl Stepper for BoxedQueue {
+impl Stepper<Job> for BoxedQueue {
     type Context = ();
+
+    type Kind = QueueKind;
+
+    type Whole = QueueReply;
 
     ghost serves = { λ _ _. Unit {0} };
 
-    #[inline(always)]
-    fn step(&mut self, _context: &(), op: &QueueOp, _out: &mut ()) -> QueueReply {
-        self.queue.apply(op)
-    }
-}
+    ghost suits = { λ _. Unit {0} };
 
-impl StepInto for BoxedQueue {
-    type Kind = QueueKind;
+    ghost whole = { λ kind job. job_reply_with kind job };
 
-    type Payload = Job;
-
-    ghost reply_with = { λ kind job. job_reply_with kind job };
+    ghost answer = { reply_after };
 
     #[inline(always)]
-    fn step_into(&mut self, _context: &(), op: &QueueOp, job: &mut Job) -> QueueKind {
+    fn step(&mut self, _context: &(), op: &QueueOp, job: &mut Job) -> QueueKind {
         self.queue.apply_into(op, job)
     }
 }

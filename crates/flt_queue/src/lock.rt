@@ -71,7 +71,7 @@ impl QueueLock {
         ensures call { CallsInto seat.old seat.new op job.new result }
         ensures kept { OnErr result (job.new ≡ job.old) }
     {
-        self.turn.call_into(rt, seat, &(), op, job)
+        self.turn.call(rt, seat, &(), op, job)
     }
 
     /// Makes a call as `call_into` does, with the job that was taken in the answer.

@@ -1,5 +1,7 @@
 -- What a call of the locked status machine answers.
-use Rattle.std.specs.Prelude.{ℕ, List, Result, reverse}
+use Rattle.std.specs.Prelude.{ℕ, List, [], Result, reverse}
+use Rattle.flt_config.specs.declared.persist.Persist.{Persist}
+use Rattle.flt_model.specs.Durable.{saved_after}
 use Rattle.arrayvec.specs.ArrayVec.{ArrayVec}
 use Rattle.flt_model.specs.Start.{Start, History}
 use Rattle.flt_model.specs.Answer.{answer}
@@ -35,9 +37,17 @@ MayBeAsked start op = IsAdmitted start.config op
 abbrev pub reply_after : DemStart → List Op → Op → Reply
 reply_after start calls op = answer start (reverse calls) op
 
+-- What a snapshot after these calls answers, and the durable state that it writes.
+abbrev pub taken_after : DemStart → List Op → ReplyKind × Persist
+taken_after start calls = (replies.Taken, saved_after start (reverse calls))
+
 -- The bytes of a response.
 abbrev pub ResponseBytes : Type 0
 ResponseBytes = ArrayVec ℕ
+
+-- No byte: what is beside an answer that is no response.
+abbrev pub no_bytes : ResponseBytes
+no_bytes = record { items = [] }
 
 -- The whole reply of a kind, with these bytes where it is a response.
 abbrev pub with_response : ReplyKind → ResponseBytes → Reply

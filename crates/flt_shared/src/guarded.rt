@@ -5,8 +5,9 @@ ghost use Rattle.flt_config.specs.Durable.{Fits};
 ghost use Rattle.flt_model.specs.Start.{fresh};
 ghost use Rattle.flt_did.specs.Serves.{Serves};
 ghost use Rattle.flt_did.specs.Table.{dids_of};
-ghost use Rattle.flt_dcm.specs.Unit.{Stands, written};
-ghost use Rattle.flt_shared.specs.Call.{MayBeAsked, reply_after, with_response};
+ghost use Rattle.flt_model.specs.declared.call.Op.TheVariants as ops;
+ghost use Rattle.flt_dcm.specs.Unit.{Stands};
+ghost use Rattle.flt_shared.specs.Call.{MayBeAsked, reply_after, taken_after, with_response};
 ghost use Rattle.flt_shared.specs.Start.{some_start, start_of};
 
 use arrayvec::ArrayVec;
@@ -15,7 +16,7 @@ use flt_dcm::{DemStart, Op, Reply, ReplyKind, UnitState};
 use flt_dem::DemState;
 use flt_did::{DID_ROWS, DidTable};
 use flt_model::RESPONSE;
-use flt_turn::{Machine, StepInto, Stepper};
+use flt_turn::{Machine, Stepper};
 use std::alloc::{AllocError, Global};
 
 /// A unit whose state is boxed, so that it is moved at little cost.
@@ -70,10 +71,6 @@ impl Machine for Guarded {
 
     type Op = Op;
 
-    type Reply = Reply;
-
-    type Out = Persist;
-
     ghost some_start = { some_start };
 
     ghost start = { λ guarded. start_of guarded.state.value };
@@ -81,35 +78,52 @@ impl Machine for Guarded {
     ghost admits = { MayBeAsked };
 
     ghost stands_for = { λ guarded start ops. Stands start (reverse ops) guarded.state.value };
-
-    ghost answer = { reply_after };
-
-    ghost written = { λ start ops op out. written start (reverse ops) op out };
 }
 
-impl Stepper for Guarded {
+// Each call but a snapshot writes at most the bytes of a response.
+impl Stepper<ArrayVec<u8, RESPONSE>> for Guarded {
     type Context = DidTable<DID_ROWS>;
+
+    type Kind = ReplyKind;
+
+    type Whole = Reply;
 
     ghost serves = { λ dids start. Serves (dids_of dids) start.config.events.items };
 
-    fn step(&mut self, dids: &DidTable<DID_ROWS>, op: &Op, out: &mut Persist) -> Reply {
-        self.state.apply(dids, op, out)
-    }
-}
+    ghost suits = { λ _. Unit {0} };
 
-impl StepInto for Guarded {
-    type Kind = ReplyKind;
+    ghost whole = { with_response };
 
-    type Payload = ArrayVec<u8, RESPONSE>;
+    ghost answer = { reply_after };
 
-    ghost reply_with = { with_response };
-
-    fn step_into(
+    fn step(
         &mut self,
         dids: &DidTable<DID_ROWS>,
         op: &Op,
         response: &mut ArrayVec<u8, RESPONSE>,
     ) -> ReplyKind {
-        self.state.apply_alone_into(dids, op, response)
+        self.state.step(dids, op, response)
+    }
+}
+
+// A snapshot writes the durable state.
+impl Stepper<Persist> for Guarded {
+    type Context = DidTable<DID_ROWS>;
+
+    type Kind = ReplyKind;
+
+    type Whole = (ReplyKind, Persist);
+
+    ghost serves = { λ dids start. Serves (dids_of dids) start.config.events.items };
+
+    ghost suits = { λ op. op ≡ ops.Snapshot };
+
+    ghost whole = { λ kind state. (kind, state) };
+
+    ghost answer = { λ start calls _. taken_after start calls };
+
+    fn step(&mut self, _dids: &DidTable<DID_ROWS>, _op: &Op, state: &mut Persist) -> ReplyKind {
+        self.state.persist(state);
+        ReplyKind::Taken
     }
 }

@@ -6,11 +6,11 @@ ghost use Rattle.flt_model.specs.Durable.{saved_after};
 ghost use Rattle.flt_model.specs.declared.call.Op.TheVariants as ops;
 ghost use Rattle.flt_did.specs.Serves.{Serves};
 ghost use Rattle.flt_did.specs.Table.{dids_of};
-ghost use Rattle.flt_dcm.specs.Unit.{IsAdmitted, Stands, written};
+ghost use Rattle.flt_dcm.specs.Unit.{IsAdmitted, Stands};
 ghost use Rattle.flt_turn.specs.Journal.{Interleaves, ops_of};
 ghost use Rattle.flt_turn.specs.Seats.{main_seat, split_off, split_seat, joined_seat};
 ghost use Rattle.flt_turn.specs.Call.{past};
-ghost use Rattle.flt_shared.specs.Call.{Calls, CallsInto, ShowsStandard};
+ghost use Rattle.flt_shared.specs.Call.{Calls, CallsInto, ShowsStandard, no_bytes};
 ghost use Rattle.flt_shared.specs.Start.{start_of};
 
 use crate::guarded::{BoxedUnit, Guarded};
@@ -101,7 +101,7 @@ impl DemLock {
         ensures call { CallsInto seat.old seat.new op response.new result }
         ensures kept { OnErr result (response.new ≡ response.old) }
     {
-        self.turn.call_into(rt, seat, &self.dids, op, response)
+        self.turn.call(rt, seat, &self.dids, op, response)
     }
 
     /// Makes a call as `call_into` does, with the bytes of a response in the answer.
@@ -208,6 +208,22 @@ impl DemLock {
         self.call(rt, seat, Op::Show { event })
     }
 
+    /// Takes a snapshot: writes the durable state to `out`, in place of what it holds. The answer has only the kind of the reply.
+    #[inline(always)]
+    pub fn snapshot_into<R: Wait>(
+        &self,
+        rt: &R,
+        seat: &mut DemSeat,
+        out: &mut Persist,
+    ) -> Result<Answer<ReplyKind>, HistoryFull<Op>>
+        requires lock { IsSeatOf self.now seat.old }
+        ensures call { CallsInto seat.old seat.new ops.Snapshot no_bytes result }
+        ensures kept { OnErr result (out.new ≡ out.old) }
+        ensures state { IfOk result (λ told. out.new ≡ saved_after seat.old.start (past told.place seat.new.seen)) }
+    {
+        self.turn.call(rt, seat, &self.dids, Op::Snapshot, out)
+    }
+
     /// Writes the durable state to `out`.
     pub fn snapshot<R: Wait>(&self, rt: &R, seat: &mut DemSeat, out: &mut Persist) -> DemAnswer
         requires lock { IsSeatOf self.now seat.old }
@@ -215,7 +231,11 @@ impl DemLock {
         ensures kept { OnErr result (out.new ≡ out.old) }
         ensures state { IfOk result (λ told. out.new ≡ saved_after seat.old.start (past told.place seat.new.seen)) }
     {
-        self.turn.call(rt, seat, &self.dids, Op::Snapshot, out)
+        let Answer { place, reply } = self.snapshot_into(rt, seat, out)?;
+        Ok(Answer {
+            place,
+            reply: reply.with(ArrayVec::new()),
+        })
     }
 
     /// Notes that a durable state was saved under this number.

@@ -13,7 +13,7 @@ use Rattle.flt_turn.specs.Vaults.{VaultOf}
 use Rattle.flt_turn.specs.Views.{is_spent, sits, present, calls_made}
 use Rattle.flt_turn.proofs.Totals.{total-same, one_le, two_le}
 
-module _ {M S O R B : Type 0} {m : Ghosts M S O R B} (start : S) (room : ℕ)
+module _ {M S O : Type 0} {m : Ghosts M S O} (start : S) (room : ℕ)
     (s : State (Option (VaultOf m)) (View S O)) (h : Orderly start room s) (id : ℕ) (v : View S O) (at : get_elem? s.views id ≡ some v) (unspent : is_spent v.stage ≡ false) where
   sits_here : sits v.number v ≡ 1
   sits_here = ap (λ b. one_if (not b && eqb v.number v.number)) unspent ∙ ap one_if (eq-eqb v.number v.number refl)

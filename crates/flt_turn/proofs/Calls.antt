@@ -14,7 +14,7 @@ use Rattle.flt_turn.specs.Vaults.{VaultOf, journal_of, start_of, room_of}
 use Rattle.flt_turn.specs.Views.{drawn, turned, done}
 use Rattle.flt_turn.proofs.Journals.{calls_of-append, nothing_more}
 
-module _ {M S O R B : Type 0} {m : Ghosts M S O R B} where
+module _ {M S O : Type 0} {m : Ghosts M S O} where
   -- The view of a seat that has the turn.
   abbrev pub at_turn : ℕ → VaultOf m → View S O → View S O
   at_turn ticket found v = turned ticket (journal_of found) (drawn ticket v)

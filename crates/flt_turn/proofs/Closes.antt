@@ -71,7 +71,7 @@ module _ {S O : Type 0} where
       by_case true e = refl
       by_case false e = absurd (omega arith)
 
-module _ {M S O R B : Type 0} {m : Ghosts M S O R B} (start : S) (room : ℕ) where
+module _ {M S O : Type 0} {m : Ghosts M S O} (start : S) (room : ℕ) where
   -- What the main seat knows of the vault that comes back.
   pub record Comes (main : Seated S O) (vault : VaultOf m) : Type 0 where
     pub start_is : start_of vault ≡ main.start

@@ -17,7 +17,7 @@ use Rattle.flt_turn.specs.Views.{waits_at, serves_at, is_spent, waits, serves, l
 use Rattle.flt_turn.proofs.Apart.{bearers_same, seats_same, lengths_same}
 use Rattle.flt_turn.proofs.Totals.{total-set, total-same, one_le}
 
-module _ {M S O R B : Type 0} {m : Ghosts M S O R B} (start : S) (room : ℕ) where
+module _ {M S O : Type 0} {m : Ghosts M S O} (start : S) (room : ℕ) where
   pub draws_ticket : (slots id : ℕ) (v : View S O) (held : List (ℕ × Option (VaultOf m))) → v.stage ≡ Idle → 0 < v.left
       → Allows (Orderly start room) slots id (v, held) 0 (λ n. (n + 1) % 2 ^ 64) (λ n me. me ≡ (drawn n v, held))
   draws_ticket slots id v held idle some_left s h deep at _ =

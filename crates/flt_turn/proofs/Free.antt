@@ -10,7 +10,7 @@ use Rattle.flt_turn.specs.Order.{IsHome, Orderly}
 use Rattle.flt_turn.specs.Vaults.{VaultOf, journal_of}
 use Rattle.flt_turn.specs.Laws.{IsFree, HoldsReplay}
 
-module _ {M S O R B : Type 0} (m : Ghosts M S O R B) (start : S) (room : ℕ) (s : State (Option (VaultOf m)) (View S O)) (h : Orderly start room s) where
+module _ {M S O : Type 0} (m : Ghosts M S O) (start : S) (room : ℕ) (s : State (Option (VaultOf m)) (View S O)) (h : Orderly start room s) where
   holds_home : IsHome start room h.tally.history s.homes → HoldsReplay m start s
   holds_home home = record {
     vault = home.vault;

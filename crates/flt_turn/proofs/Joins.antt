@@ -19,7 +19,7 @@ use Rattle.flt_turn.specs.Views.{waits_at, serves_at, is_spent, waits, serves, s
 use Rattle.flt_turn.proofs.Apart.{others_number}
 use Rattle.flt_turn.proofs.Totals.{total-append, total-set, total-same, one_le}
 
-module _ {M S O R B : Type 0} {m : Ghosts M S O R B} (start : S) (room : ℕ) where
+module _ {M S O : Type 0} {m : Ghosts M S O} (start : S) (room : ℕ) where
   module _ (s : State (Option (VaultOf m)) (View S O)) (h : Orderly start room s) (some_start : S) (id other : ℕ) (v w : View S O) (at : get_elem? s.views id ≡ some v) (apart : other ≢ id) (there : get_elem? (set s.views id (joined_with v w)) other ≡ some w)
       (idle : v.stage ≡ Idle) (idle' : w.stage ≡ Idle) (main : v.number ≡ 0) where
     abbrev both : View S O

@@ -21,7 +21,7 @@ use Rattle.flt_turn.specs.Views.{waits_at, serves_at, ticket_of, is_spent, waits
 use Rattle.flt_turn.proofs.Apart.{bearers_same, seats_same, lengths_same}
 use Rattle.flt_turn.proofs.Totals.{total-set, total-same, one_le}
 
-module _ {M S O R B : Type 0} {m : Ghosts M S O R B} (start : S) (room : ℕ) where
+module _ {M S O : Type 0} {m : Ghosts M S O} (start : S) (room : ℕ) where
   abbrev Found : ℕ → View S O → VaultOf m → Type 0
   Found = IsTakenOut
 

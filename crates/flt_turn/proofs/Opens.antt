@@ -11,7 +11,7 @@ use Rattle.flt_turn.specs.Vaults.{VaultOf, journal_of, start_of, room_of}
 use Rattle.flt_turn.specs.Views.{is_spent, main_view}
 use Rattle.flt_turn.proofs.Journals.{prefix_refl}
 
-module _ {M S O R B : Type 0} {m : Ghosts M S O R B} where
+module _ {M S O : Type 0} {m : Ghosts M S O} where
   pub opens : (vault : VaultOf m) (start : S) (room : ℕ) → journal_of vault ≡ [] → start_of vault ≡ start → room ≤ room_of vault → room < 2 ^ 32
       → Orderly start room (opening (0 ∷ 0 ∷ []) (Some vault ∷ []) (main_view start room))
   opens vault start room empty start_is roomy small = record {

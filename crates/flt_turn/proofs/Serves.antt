@@ -23,7 +23,7 @@ use Rattle.flt_turn.proofs.Journals.{prefix_refl, prefix_longer, olds_longer, at
 use Rattle.flt_turn.proofs.Slots.{one_value}
 use Rattle.flt_turn.proofs.Totals.{total-set, total-same, one_le, two_le}
 
-module _ {M S O R B : Type 0} {m : Ghosts M S O R B} (start : S) (room : ℕ) where
+module _ {M S O : Type 0} {m : Ghosts M S O} (start : S) (room : ℕ) where
   module _ (s : State (Option (VaultOf m)) (View S O)) (h : Orderly start room s) (id : ℕ) (v : View S O) (at : get_elem? s.views id ≡ some v) (ticket : ℕ) (serving : v.stage ≡ Serving ticket)
       (vault : VaultOf m) (op : O) (longer : journal_of vault ≡ v.seen ++ entry v.number op ∷ []) (start_is : start_of vault ≡ v.start) (roomy : v.room ≤ room_of vault) (allowed : m.admits v.start op) where
     unspent : is_spent v.stage ≡ false

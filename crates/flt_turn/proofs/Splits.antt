@@ -18,7 +18,7 @@ use Rattle.flt_turn.proofs.Apart.{others_number}
 use Rattle.flt_turn.proofs.Journals.{calls_of-append}
 use Rattle.flt_turn.proofs.Totals.{total-append, total-set, total-same}
 
-module _ {M S O R B : Type 0} {m : Ghosts M S O R B} (start : S) (room : ℕ) where
+module _ {M S O : Type 0} {m : Ghosts M S O} (start : S) (room : ℕ) where
   pub splits : (id : ℕ) (v : View S O) (calls : ℕ) → v.stage ≡ Idle → v.number ≡ 0 → calls ≤ v.left → Splits (Orderly {m = m} start room) id v (parent calls v) (child calls v)
   splits id v calls idle main enough s h at =
       let w : View S O = parent calls v in

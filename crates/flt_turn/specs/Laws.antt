@@ -11,7 +11,7 @@ use Rattle.flt_turn.specs.Sums.{total}
 use Rattle.flt_turn.specs.Vaults.{VaultOf, journal_of}
 use Rattle.flt_turn.specs.Views.{serves, is_spent}
 
-module _ {M S O R B : Type 0} (m : Ghosts M S O R B) where
+module _ {M S O : Type 0} (m : Ghosts M S O) where
   -- No seat has the turn.
   abbrev pub IsFree : State (Option (VaultOf m)) (View S O) → Type 0
   IsFree s = (ticket : ℕ) → total (serves ticket) s.views ≡ 0

@@ -95,7 +95,7 @@ module _ {S O : Type 0} where
     -- Each place of the journal was drawn, or is left to one seat.
     pub places : total left_of views + t.next ≡ room
 
-module _ {M S O R B : Type 0} {m : Ghosts M S O R B} where
+module _ {M S O : Type 0} {m : Ghosts M S O} where
   -- The vault is at home, with the whole history.
   pub record IsHome (start : S) (room : ℕ) (history : List (Entry O)) (homes : List (mathlib.Core.Option.Option (Option (VaultOf m)))) : Type 0 where
     -- The vault.

@@ -18,7 +18,7 @@ module _ {W S O : Type 0} where
   abbrev pub counts : Step (Option W) → Me (Option W) (View S O) → ℕ → Me (Option W) (View S O) → Type 0
   counts st before found after = (after ≡ before) × (before.0.left < 2 ^ 32) × (before.0.number ≡ 0 → length before.0.ended ≤ before.0.children)
 
-module _ {M S O R B : Type 0} {m : Ghosts M S O R B} where
+module _ {M S O : Type 0} {m : Ghosts M S O} where
   -- The vault that a seat takes out at the turn of this ticket.
   pub record IsTakenOut (ticket : ℕ) (v : View S O) (vault : VaultOf m) : Type 0 where
     -- It began with the seat's start.

@@ -7,10 +7,10 @@ use Rattle.flt_turn.specs.declared.vault.Vault.{Vault}
 use Rattle.flt_turn.specs.Journal.{entry}
 
 -- The vaults of the machines with these members.
-abbrev pub VaultOf : {M S O R B : Type 0} → Ghosts M S O R B → Type 0
-VaultOf {M} {S} {O} {R} {B} m = Vault M S O R B m
+abbrev pub VaultOf : {M S O : Type 0} → Ghosts M S O → Type 0
+VaultOf {M} {S} {O} m = Vault M S O m
 
-module _ {M S O R B : Type 0} {m : Ghosts M S O R B} where
+module _ {M S O : Type 0} {m : Ghosts M S O} where
   -- The operations that its machine took, in order, each with the number of its seat.
   abbrev pub journal_of : VaultOf m → List (Entry O)
   journal_of vault = vault.journal.items

@@ -16,7 +16,7 @@ mod vault;
 mod view;
 
 pub use answer::{Answer, HistoryFull, MachineBack};
-pub use machine::{Machine, StepInto, Stepper};
+pub use machine::{Machine, Stepper};
 pub use seat::Seat;
 pub use turn::Turn;
 pub use vault::{Entry, Vault};

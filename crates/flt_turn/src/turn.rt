@@ -9,7 +9,7 @@ ghost use Rattle.flt_turn.specs.Seats.{IsSeatOf, main_seat, Extends, ops_before,
 ghost use Rattle.flt_turn.specs.Views.{drawn, turned, done, parent, child};
 
 use crate::answer::{Answer, HistoryFull, MachineBack};
-use crate::machine::{Machine, StepInto, Stepper};
+use crate::machine::{Machine, Stepper};
 use crate::rule::{Count, Cut, Draw, Look, Merge, Order, Serve, Share, Terms};
 use crate::seat::Seat;
 use crate::vault::Vault;
@@ -98,66 +98,36 @@ impl<M: Machine> Turn<M> {
     }
 
     /// Makes a call when its turn comes: after all calls that drew their tickets before, and before all later ones. It allocates no
-    /// memory.
+    /// memory. What the operation writes is written to `out`.
     ///
-    /// The reply is the machine's answer after the operations before the call's place in the journal. At `Err`, if and only if the seat
+    /// The answer is the machine's after the operations before the call's place in the journal. At `Err`, if and only if the seat
     /// has no call left, nothing was changed, and `HistoryFull` has the operation: make the call on a seat that has calls left, or end
     /// the lock and make one with more room.
     #[inline(always)]
-    pub fn call<R: Wait>(
+    pub fn call<R: Wait, W>(
         &self,
         rt: &R,
         seat: &mut Seat<M>,
         context: &M::Context,
         op: M::Op,
-        out: &mut M::Out,
-    ) -> Result<Answer<M::Reply>, HistoryFull<M::Op>>
+        out: &mut W,
+    ) -> Result<Answer<M::Kind>, HistoryFull<M::Op>>
     where
-        M: Stepper,
+        M: Stepper<W>,
         requires lock { IsSeatOf self.now seat.old }
         requires serves { M.Stepper.serves context.now seat.old.start }
         requires admitted { M.admits seat.old.start op }
+        requires suits { M.Stepper.suits op }
 
-        ensures call { Calls (IsCall M.admits M.answer seat.old seat.new op) seat.old seat.new op result }
+        ensures call { Calls (λ told. IsCall M.admits M.Stepper.answer seat.old seat.new op (whole M.Stepper.whole told out.new))
+            seat.old seat.new op result }
         ensures kept { OnErr result (out.new ≡ out.old) }
-        ensures written { IfOk result (λ told. out.new ≡ M.written seat.old.start (ops_before told.place seat.new.seen) op out.old) }
     {
         if seat.left == 0 {
             return Err(HistoryFull { op });
         }
         let (place, mut vault) = self.take_turn(rt, &mut seat.token);
         let reply = vault.apply(context, seat.number, op, out);
-        self.end_turn(&mut seat.token, vault, place);
-        seat.left -= 1;
-        Ok(Answer { place, reply })
-    }
-
-    /// Makes a call as `call` does, without the machine's buffer: what the operation would write is not written. The answer is small:
-    /// it has only the kind of the reply, and the rest of the reply is in `payload`. At `Err` do as at that of `call`.
-    #[inline(always)]
-    pub fn call_into<R: Wait>(
-        &self,
-        rt: &R,
-        seat: &mut Seat<M>,
-        context: &M::Context,
-        op: M::Op,
-        payload: &mut M::Payload,
-    ) -> Result<Answer<M::Kind>, HistoryFull<M::Op>>
-    where
-        M: StepInto,
-        requires lock { IsSeatOf self.now seat.old }
-        requires serves { M.StepInto.serves context.now seat.old.start }
-        requires admitted { M.admits seat.old.start op }
-
-        ensures call { Calls (λ told. IsCall M.admits M.answer seat.old seat.new op (whole M.StepInto.reply_with told payload.new))
-            seat.old seat.new op result }
-        ensures kept { OnErr result (payload.new ≡ payload.old) }
-    {
-        if seat.left == 0 {
-            return Err(HistoryFull { op });
-        }
-        let (place, mut vault) = self.take_turn(rt, &mut seat.token);
-        let reply = vault.apply_into(context, seat.number, op, payload);
         self.end_turn(&mut seat.token, vault, place);
         seat.left -= 1;
         Ok(Answer { place, reply })

@@ -3,7 +3,7 @@ ghost use Rattle.std.specs.Prelude.{◌≡◌, ◌<◌, List, length};
 ghost use Rattle.std.specs.Vec.{vec_capacity};
 ghost use Rattle.flt_turn.specs.Journal.{ops_of};
 
-use crate::machine::{Machine, StepInto, Stepper};
+use crate::machine::{Machine, Stepper};
 
 /// An operation, and the number of the seat that asked for it.
 #[derive(Drop)]
@@ -26,45 +26,23 @@ impl<M: Machine> Vault<M> {
 
     /// Makes the machine's step, and records it in room that the journal has reserved.
     #[inline(always)]
-    pub(crate) fn apply(
+    pub(crate) fn apply<W>(
         &mut self,
         context: &M::Context,
         lane: u32,
         op: M::Op,
-        out: &mut M::Out,
-    ) -> M::Reply
-    where
-        M: Stepper,
-        requires serves { M.Stepper.serves context.now (M.start self.old.machine) }
-        requires admitted { M.admits (M.start self.old.machine) op }
-        requires room { length self.old.journal.items < vec_capacity self.old.journal }
-        ensures takes { TakesCall lane op self.old self.new }
-        ensures answer { result ≡ M.answer (M.start self.old.machine) (ops_of self.old.journal.items) op }
-        ensures written { out.new ≡ M.written (M.start self.old.machine) (ops_of self.old.journal.items) op out.old }
-    {
-        let reply = self.machine.step(context, &op, out);
-        self.journal.push_reserved(Entry { lane, op });
-        reply
-    }
-
-    /// The same without the machine's buffer: only the rest of the reply is written.
-    #[inline(always)]
-    pub(crate) fn apply_into(
-        &mut self,
-        context: &M::Context,
-        lane: u32,
-        op: M::Op,
-        payload: &mut M::Payload,
+        out: &mut W,
     ) -> M::Kind
     where
-        M: StepInto,
-        requires serves { M.StepInto.serves context.now (M.start self.old.machine) }
+        M: Stepper<W>,
+        requires serves { M.Stepper.serves context.now (M.start self.old.machine) }
         requires admitted { M.admits (M.start self.old.machine) op }
+        requires suits { M.Stepper.suits op }
         requires room { length self.old.journal.items < vec_capacity self.old.journal }
         ensures takes { TakesCall lane op self.old self.new }
-        ensures answer { M.StepInto.reply_with result payload.new ≡ M.answer (M.start self.old.machine) (ops_of self.old.journal.items) op }
+        ensures answer { M.Stepper.whole result out.new ≡ M.Stepper.answer (M.start self.old.machine) (ops_of self.old.journal.items) op }
     {
-        let kind = self.machine.step_into(context, &op, payload);
+        let kind = self.machine.step(context, &op, out);
         self.journal.push_reserved(Entry { lane, op });
         kind
     }

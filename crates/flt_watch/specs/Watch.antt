@@ -3,9 +3,9 @@ use Rattle.std.specs.Prelude.{◌≡◌, ◌⊎◌, ℕ, List, [], ◌∷◌, fa
 use Rattle.std.specs.Io.KnownBytes.{Appends, IsAtEnd}
 use Rattle.flt_io.specs.Fault.{Rose}
 use Rattle.flt_config.specs.declared.config.DidUse.{DidUse}
-use Rattle.flt_config.specs.declared.persist.Persist.{Persist}
 use Rattle.flt_config.specs.Durable.{initial_state}
 use Rattle.flt_script.specs.declared.fault.ScriptFault.{ScriptFault}
+use Rattle.flt_shared.specs.State.{IsNoState}
 use Rattle.flt_step.specs.declared.step.Step.{Step}
 use Rattle.flt_step.specs.Part.{PartOf}
 use Rattle.flt_script.specs.Script.{ScriptContent}
@@ -20,16 +20,6 @@ use Rattle.flt_watch.specs.Asked.{is_watchable}
 use Rattle.flt_watch.specs.Text.{other_line, watch_text}
 use Rattle.flt_watch.specs.Watched.{IsWatched}
 use Rattle.flt_watch.specs.declared.watching.WatchOutcome.{WatchOutcome}
-
--- No event, entry, note or overflow.
-pub record IsNoState (state : Persist) : Type 0 where
-  pub events : state.events.items ≡ []
-  pub entries : state.entries.items ≡ []
-  pub overflow : state.overflow ≡ false
-  pub first_failed : state.first_failed ≡ None
-  pub first_confirmed : state.first_confirmed ≡ None
-  pub recent_failed : state.recent_failed ≡ None
-  pub recent_confirmed : state.recent_confirmed ≡ None
 
 -- The status, by whether the text was written with which this one is due.
 abbrev pub status_written : {T : Type 0} → ℕ → Result T StreamFault → ℕ

@@ -83,7 +83,7 @@ impl WatchLock {
         ensures call { CallsInto seat.old seat.new op response.new result }
         ensures kept { OnErr result (response.new ≡ response.old) }
     {
-        self.turn.call_into(rt, seat, &self.lent, op, response)
+        self.turn.call(rt, seat, &self.lent, op, response)
     }
 
     /// Ends the lock, once each seat that was split from the main seat was joined. The subscribers come back with the whole journal,

@@ -8,13 +8,12 @@ ghost use Rattle.flt_life_model.specs.declared.life.Boot.TheVariants.{Started};
 ghost use Rattle.flt_notify.specs.Table.{IsAtZero, kinds_in, values_in};
 ghost use Rattle.flt_script.specs.Script.{content};
 ghost use Rattle.flt_watch.specs.Asked.{is_watchable};
-ghost use Rattle.flt_watch.specs.Watch.{IsMadeOf, IsNoState, IsUnmade, WantsMemory, Watches, status_written};
+ghost use Rattle.flt_watch.specs.Watch.{IsMadeOf, IsUnmade, WantsMemory, Watches, status_written};
 ghost use Rattle.flt_filter.specs.Verdict.{reading_of, writing_of};
 
 use crate::asking::{Asked, ask};
 use crate::life::{WatchedLife, live};
 use crate::telling::{write_other, write_watched};
-use arrayvec::ArrayVec;
 use flt_config::Persist;
 use flt_did::{DID_ROWS, DidTable};
 use flt_io::{Sink, Source, Status, StreamFault};
@@ -22,7 +21,7 @@ use flt_lane::Gate;
 use flt_life_model::{Boot, Entry, LaneReplies, Life};
 use flt_notify::{KINDS, SubTable};
 use flt_script::{Script, write_script_fault, write_unread};
-use flt_shared::Op;
+use flt_shared::{Op, no_state};
 use std::alloc::Global;
 use std::marker::Sync;
 use std::sync::Wait;
@@ -42,21 +41,6 @@ pub struct WatchOutcome {
     pub answers: Vec<LaneReplies>,
     /// The subscribers, with the values that the changes of the journal gave them.
     pub subs: SubTable<KINDS>,
-}
-
-/// The state of no event.
-fn no_state() -> Persist
-    ensures { IsNoState result }
-{
-    Persist {
-        events: ArrayVec::new(),
-        entries: ArrayVec::new(),
-        overflow: false,
-        first_failed: None,
-        first_confirmed: None,
-        recent_failed: None,
-        recent_confirmed: None,
-    }
 }
 
 /// The status, by whether the text that is due was written.

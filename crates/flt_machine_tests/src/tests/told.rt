@@ -7,10 +7,10 @@ ghost use Rattle.flt_dcm.specs.Unit.{IsAdmitted};
 ghost use Rattle.flt_notify.specs.Watched.{watched_unit};
 
 use arrayvec::ArrayVec;
-use flt_config::{Config, EVENTS, EventCfg, Persist, check, initial};
+use flt_config::{Config, EVENTS, EventCfg, check};
 use flt_dcm::Op;
 use flt_did::DidTable;
-use flt_model::{REQUEST, Report};
+use flt_model::{REQUEST, RESPONSE, Report};
 use flt_notify::{KINDS, Lent, SubTable, Watched, note_0, note_1, note_2};
 use flt_shared::BoxedUnit;
 use flt_turn::Stepper;
@@ -27,12 +27,12 @@ enum Call<'a> {
     Ask(&'a [u8]),
 }
 
-/// A watched machine, what is lent to its steps, and room for a snapshot.
+/// A watched machine, what is lent to its steps, and room for a response.
 #[derive(Drop)]
 struct Watcher {
     watched: Watched,
     lent: Lent,
-    saved: Persist,
+    response: ArrayVec<u8, RESPONSE>,
     events: u16,
     ghost served: { Serves (dids_of lent.dids) (watched_unit watched).dem.durable.config.events.items } by { Prim.hlevel props },
     ghost counted: { length (watched_unit watched).dem.durable.config.events.items ≡ events },
@@ -56,7 +56,7 @@ impl Watcher {
     fn call(&mut self, op: Op)
         requires { IsAdmitted (watched_unit self.old.watched).dem.durable.config op }
     {
-        self.watched.step(&self.lent, &op, &mut self.saved);
+        self.watched.step(&self.lent, &op, &mut self.response);
     }
 
     fn report(&mut self, event: u16, report: Report) {
@@ -90,7 +90,6 @@ impl Watcher {
 /// The values of the three kinds after these calls.
 fn values_after(alloc: Global, calls: &[Call]) -> Option<[Option<u64>; 3]> {
     let config = check(configured()).ok()?;
-    let saved = initial(&config);
     let events = config.config().events.len() as u16;
     let dids = DidTable::new();
     if !dids.serves(&config.config().events) {
@@ -105,7 +104,7 @@ fn values_after(alloc: Global, calls: &[Call]) -> Option<[Option<u64>; 3]> {
     let mut watcher = Watcher {
         watched,
         lent,
-        saved,
+        response: ArrayVec::new(),
         events,
     };
     for call in calls {

@@ -3,7 +3,7 @@ ghost use Rattle.std.specs.Prelude.{◌≡◌, ◌+◌, ◌*◌, ◌%◌, ◌^�
 ghost use Rattle.std.specs.Thread.{IsSync};
 ghost use Rattle.flt_turn.specs.Seats.{IsSeatOf};
 
-use flt_turn::{Answer, Entry, Machine, Seat, StepInto, Stepper, Turn};
+use flt_turn::{Answer, Entry, Machine, Seat, Stepper, Turn};
 use std::sync::Wait;
 use std::test::*;
 use std::thread::{Threads, join};
@@ -20,10 +20,6 @@ impl Machine for Adder {
 
     type Op = u32;
 
-    type Reply = u64;
-
-    type Out = ();
-
     ghost some_start = { 0 };
 
     ghost start = { λ adder. adder.first };
@@ -31,16 +27,23 @@ impl Machine for Adder {
     ghost admits = { λ _ op. op ≤ 10000 };
 
     ghost stands_for = { λ adder first ops. adder.sum ≡ (first + sum ops) % 2 ^ 64 };
-
-    ghost answer = { λ first ops op. (first + sum (ops ++ op ∷ [])) % 2 ^ 64 };
-
-    ghost written = { λ _ _ _ out. out };
 }
 
-impl Stepper for Adder {
+// The whole sum is returned, and nothing is written.
+impl Stepper<()> for Adder {
     type Context = ();
 
+    type Kind = u64;
+
+    type Whole = u64;
+
     ghost serves = { λ _ _. Unit {0} };
+
+    ghost suits = { λ _. Unit {0} };
+
+    ghost whole = { λ sum _. sum };
+
+    ghost answer = { λ first ops op. (first + sum (ops ++ op ∷ [])) % 2 ^ 64 };
 
     fn step(&mut self, _context: &(), op: &u32, _out: &mut ()) -> u64 {
         self.sum = self.sum.wrapping_add(u64::from(*op));
@@ -48,15 +51,23 @@ impl Stepper for Adder {
     }
 }
 
-// The last three digits of the sum are the small part of its answer.
-impl StepInto for Adder {
+// The last three digits of the sum are returned, and the rest is written. It adds no number above 5,000.
+impl Stepper<u64> for Adder {
+    type Context = ();
+
     type Kind = u64;
 
-    type Payload = u64;
+    type Whole = u64;
 
-    ghost reply_with = { λ digits rest. rest + digits };
+    ghost serves = { λ _ _. Unit {0} };
 
-    fn step_into(&mut self, _context: &(), op: &u32, rest: &mut u64) -> u64 {
+    ghost suits = { λ op. op ≤ 5000 };
+
+    ghost whole = { λ digits rest. rest + digits };
+
+    ghost answer = { λ first ops op. (first + sum (ops ++ op ∷ [])) % 2 ^ 64 };
+
+    fn step(&mut self, _context: &(), op: &u32, rest: &mut u64) -> u64 {
         self.sum = self.sum.wrapping_add(u64::from(*op));
         let digits = self.sum % 1000;
         *rest = self.sum - digits;
@@ -124,20 +135,20 @@ fn answers_in_two_parts(rt: HostRuntime) -> Result<(), Fail> {
         return Err(Fail::from("memory"));
     };
     let mut rest = 7;
-    let Ok(first) = turn.call_into(&rt, &mut main, &(), 1_234, &mut rest) else {
+    let Ok(first) = turn.call(&rt, &mut main, &(), 1_234, &mut rest) else {
         unreachable!()
     };
     assert!(rt; is_at(&first, 0, 234) && rest == 1_000);
-    let Ok(second) = turn.call_into(&rt, &mut main, &(), 9_999, &mut rest) else {
+    let Ok(second) = turn.call(&rt, &mut main, &(), 4_999, &mut rest) else {
         unreachable!()
     };
-    assert!(rt; is_at(&second, 1, 233) && rest == 11_000);
-    let Err(full) = turn.call_into(&rt, &mut main, &(), 8, &mut rest) else {
+    assert!(rt; is_at(&second, 1, 233) && rest == 6_000);
+    let Err(full) = turn.call(&rt, &mut main, &(), 8, &mut rest) else {
         unreachable!()
     };
-    assert!(rt; full.op == 8 && rest == 11_000);
+    assert!(rt; full.op == 8 && rest == 6_000);
     let vault = turn.close(main);
-    assert!(rt; vault.journal.len() == 2 && vault.machine.sum == 11_233);
+    assert!(rt; vault.journal.len() == 2 && vault.machine.sum == 6_233);
     Ok(())
 }
 

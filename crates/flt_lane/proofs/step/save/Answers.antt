@@ -4,6 +4,7 @@ use Rattle.flt_life_model.specs.declared.answer.StepAnswer.TheVariants as answer
 use Rattle.flt_step.specs.declared.step.Step.TheVariants as steps
 use Rattle.flt_store.specs.Store.{driver_of}
 use Rattle.flt_turn.specs.Call.{past}
+use Rattle.flt_shared.specs.Call.{no_bytes, whole}
 use Rattle.flt_life_model.proofs.Causing.{caused_saved, caused_failed}
 use Rattle.flt_life_model.specs.Applications.{answers_of}
 use Rattle.flt_lane.proofs.Carrying.{holds_deed}
@@ -15,20 +16,22 @@ use Rattle.flt_lane.proofs.step.save.Goals as goal
 
 pub save-requires-clause-fits : goal.save-requires-clause-fits
 save-requires-clause-fits g c =
-    taken_fits c.args.config.now c.args.seat.now.start (past c.in-Ok._taken.place c.snapshot.new.seat.seen) c.snapshot.new.out c.requires.ready.has.same c.requires.ready.has.valid c.requires.ready.has.fits c.in-Ok.ensures.state
+    taken_fits c.args.config.now c.args.seat.now.start (past c.in-Ok._taken.place c.snapshot_into.new.seat.seen) c.snapshot_into.new.out c.requires.ready.has.same c.requires.ready.has.valid c.requires.ready.has.fits c.in-Ok.ensures.state
 
 pub returns-in-Ok-saved-clause-takes : goal.returns-in-Ok-saved-clause-takes
 returns-in-Ok-saved-clause-takes g c = λ jobs.
+    let taken = whole c.in-Ok._taken no_bytes in
+    let made = c.in-Ok.ensures.call in
     let told : Told = answers.Saved c.in-Ok-save.generation in
     let kept = c.keep.ensures in
     takes_deed c.args.config.now c.args.seat.now c.saved.new.seat jobs jobs steps.Save told c.args.replies.now c.keep.new.self c.args.store.now c.save.new.self refl
     (keeps c.args.replies.now c.keep.new.self steps.Save (answers.Saved c.in-Ok-save.generation) kept.told kept.answers kept.room kept.responses kept.bytes refl)
-    (saved_made c.args.seat.now c.snapshot.new.seat c.in-Ok-save.generation c.in-Ok._taken c.in-Ok-saved._noted c.saved.new.seat c.in-Ok.ensures.call.call c.in-Ok-saved.ensures.call) (none_queued jobs steps.Save told refl)
+    (saved_made c.args.seat.now c.snapshot_into.new.seat c.in-Ok-save.generation taken c.in-Ok-saved._noted c.saved.new.seat made.call c.in-Ok-saved.ensures.call) (none_queued jobs steps.Save told refl)
     (λ earlier. record {
       alive = λ alive. c.save.ensures.alive;
-      living = λ first start living. living_saved c.args.config.now c.args.seat.now c.snapshot.new.seat c.in-Ok._taken c.snapshot.new.out c.in-Ok.ensures.call.call c.in-Ok.ensures.state earlier c.args.store.now c.save.new.self
+      living = λ first start living. living_saved c.args.config.now c.args.seat.now c.snapshot_into.new.seat taken c.snapshot_into.new.out made.call c.in-Ok.ensures.state earlier c.args.store.now c.save.new.self
           first start living c.saved.new.seat c.in-Ok-save.generation c.in-Ok-saved._noted c.in-Ok-saved.ensures.call (λ held spare running. (c.in-Ok-save.ensures.answers held spare running).saved);
-      caused = λ begun caused. caused_saved c.args.config.now begun (answers_of earlier) c.args.store.now c.save.new.self caused c.snapshot.new.out c.in-Ok-save.generation c.save.ensures.driver.calls
+      caused = λ begun caused. caused_saved c.args.config.now begun (answers_of earlier) c.args.store.now c.save.new.self caused c.snapshot_into.new.out c.in-Ok-save.generation c.save.ensures.driver.calls
           (c.in-Ok-save.ensures.answers caused.held_now caused.spare_now caused.running).saved;
       holds = λ alive first holds. holds_deed first jobs earlier (steps.Save, told) (driver_of c.args.store.now).value (driver_of c.save.new.self).value c.save.ensures.driver.applications refl refl (λ past held. tt) holds;
     })
@@ -36,16 +39,18 @@ returns-in-Ok-saved-clause-takes g c = λ jobs.
 
 pub returns-in-Err-clause-takes : goal.returns-in-Err-clause-takes
 returns-in-Err-clause-takes g c = λ jobs.
+    let taken = whole c.in-Ok._taken no_bytes in
+    let made = c.in-Ok.ensures.call in
     let told : Told = answers.SaveFailed c.in-Err.fault in
     let kept = c.keep-in-Err.ensures in
-    takes_deed c.args.config.now c.args.seat.now c.snapshot.new.seat jobs jobs steps.Save told c.args.replies.now c.keep-in-Err.new.self c.args.store.now c.save.new.self refl
+    takes_deed c.args.config.now c.args.seat.now c.snapshot_into.new.seat jobs jobs steps.Save told c.args.replies.now c.keep-in-Err.new.self c.args.store.now c.save.new.self refl
     (keeps c.args.replies.now c.keep-in-Err.new.self steps.Save (answers.SaveFailed c.in-Err.fault) kept.told kept.answers kept.room kept.responses kept.bytes refl)
-    (failed_made c.args.seat.now c.in-Err.fault c.in-Ok._taken c.snapshot.new.seat c.in-Ok.ensures.call.call) (none_queued jobs steps.Save told refl)
+    (failed_made c.args.seat.now c.in-Err.fault taken c.snapshot_into.new.seat made.call) (none_queued jobs steps.Save told refl)
     (λ earlier. record {
       alive = λ alive. c.save.ensures.alive;
-      living = λ first start living. living_failed c.args.config.now c.args.seat.now c.snapshot.new.seat c.in-Ok._taken c.snapshot.new.out c.in-Ok.ensures.call.call c.in-Ok.ensures.state earlier c.args.store.now c.save.new.self
+      living = λ first start living. living_failed c.args.config.now c.args.seat.now c.snapshot_into.new.seat taken c.snapshot_into.new.out made.call c.in-Ok.ensures.state earlier c.args.store.now c.save.new.self
           first start living c.in-Err.fault (λ held spare running. (c.in-Err.ensures.answers held spare running).failed);
-      caused = λ begun caused. caused_failed c.args.config.now begun (answers_of earlier) c.args.store.now c.save.new.self caused c.snapshot.new.out c.in-Err.fault c.save.ensures.driver.calls
+      caused = λ begun caused. caused_failed c.args.config.now begun (answers_of earlier) c.args.store.now c.save.new.self caused c.snapshot_into.new.out c.in-Err.fault c.save.ensures.driver.calls
           (c.in-Err.ensures.answers caused.held_now caused.spare_now caused.running).failed
           (λ is. (c.in-Err.ensures.causes caused.held_now caused.spare_now caused.running).flash (ap Err is))
           (λ is. (c.in-Err.ensures.causes caused.held_now caused.spare_now caused.running).spent (ap Err is))

@@ -21,7 +21,7 @@ returns-in-Ok-clause-saves g c = λ response. record {
         kept = rw taken (kept_saved c.args.config.now first journal told living.held living.spare living.kept saved.chosen saved.is 0 c.in-Ok.generation (entry 0 ops.Snapshot ∷ journal) saved.next refl);
       });
   caused = λ begun told caused.
-      caused_saved c.args.config.now begun told c.args.store.now c.save.new.self caused c.take_snapshot.new.buffers.state c.in-Ok.generation c.save.ensures.driver.calls
+      caused_saved c.args.config.now begun told c.args.store.now c.save.new.self caused c.take_snapshot.new.state c.in-Ok.generation c.save.ensures.driver.calls
       (c.in-Ok.ensures.answers caused.held_now caused.spare_now caused.running).saved;
   applications = c.save.ensures.driver.applications;
   keeps_driver = c.save.ensures.driver.calls;
@@ -44,7 +44,7 @@ returns-in-Err-clause-saves g c = λ response. record {
         kept = kept_failed c.args.config.now first journal told living.held living.spare living.kept left.chosen left.is 0 c.in-Err.fault left.now_held left.now_spare held_is spare_is;
       });
   caused = λ begun told caused.
-      caused_failed c.args.config.now begun told c.args.store.now c.save.new.self caused c.take_snapshot.new.buffers.state c.in-Err.fault c.save.ensures.driver.calls
+      caused_failed c.args.config.now begun told c.args.store.now c.save.new.self caused c.take_snapshot.new.state c.in-Err.fault c.save.ensures.driver.calls
       (c.in-Err.ensures.answers caused.held_now caused.spare_now caused.running).failed
       (λ is. (c.in-Err.ensures.causes caused.held_now caused.spare_now caused.running).flash (ap Err is))
       (λ is. (c.in-Err.ensures.causes caused.held_now caused.spare_now caused.running).spent (ap Err is))

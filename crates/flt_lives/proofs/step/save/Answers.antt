@@ -19,10 +19,9 @@ use Rattle.flt_lives.proofs.step.save.Goals as goal
 pub returns-in-Ok-clause-ready : goal.returns-in-Ok-clause-ready
 returns-in-Ok-clause-ready g c =
     let ready = c.requires.ready in
-    let same = c.take_snapshot.ensures.config ∙ ready.same in
     record {
-      same = c.call.ensures.config ∙ same;
-      under_way = subst (λ (k : Config). IsUnderWay k (unit_seen c.call.new.unit)) same c.call.ensures.under_way;
+      same = c.call.ensures.config ∙ ready.same;
+      under_way = subst (λ (k : Config). IsUnderWay k (unit_seen c.call.new.unit)) ready.same c.call.ensures.under_way;
       alive = c.save.ensures.alive;
     }
 
@@ -30,8 +29,8 @@ pub returns-in-Err-clause-ready : goal.returns-in-Err-clause-ready
 returns-in-Err-clause-ready g c =
     let ready = c.requires.ready in
     record {
-      same = c.take_snapshot.ensures.config ∙ ready.same;
-      under_way = subst (λ (k : Config). IsUnderWay k (unit_seen c.take_snapshot.new.unit)) ready.same c.take_snapshot.ensures.under_way;
+      same = ready.same;
+      under_way = ready.under_way;
       alive = c.save.ensures.alive;
     }
 
@@ -55,7 +54,7 @@ returns-in-Ok-clause-made g c =
           } in
           subst (λ (journal : Journal). IsLiving config first journal (answers.Saved c.in-Ok.generation ∷ told) (unit_seen c.call.new.unit) c.save.new.self) (sym written) after);
       caused = λ begun told caused.
-          caused_saved config begun told c.args.store.now c.save.new.self caused c.take_snapshot.new.buffers.state c.in-Ok.generation c.save.ensures.driver.calls
+          caused_saved config begun told c.args.store.now c.save.new.self caused c.take_snapshot.new.state c.in-Ok.generation c.save.ensures.driver.calls
           (c.in-Ok.ensures.answers caused.held_now caused.spare_now caused.running).saved;
     }
 
@@ -70,16 +69,16 @@ returns-in-Err-clause-made g c =
           let taken = c.take_snapshot.ensures.taken (start_from config first.state) (calls_of journal) living.stands in
           let held_is = rw taken at left.held_is in
           let spare_is = rw taken at left.spare_is in
-          let after : IsLiving config first (entry 0 ops.Snapshot ∷ journal) (answers.SaveFailed c.in-Err.fault ∷ told) (unit_seen c.take_snapshot.new.unit) c.save.new.self = record {
+          let after : IsLiving config first (entry 0 ops.Snapshot ∷ journal) (answers.SaveFailed c.in-Err.fault ∷ told) (unit_seen c.args.unit.now) c.save.new.self = record {
             stands = c.take_snapshot.ensures.stands (start_from config first.state) (calls_of journal) living.stands;
             held = left.now_held;
             spare = left.now_spare;
             running = left.running;
             kept = kept_failed config first journal told living.held living.spare living.kept left.chosen left.is 0 c.in-Err.fault left.now_held left.now_spare held_is spare_is;
           } in
-          subst (λ (journal : Journal). IsLiving config first journal (answers.SaveFailed c.in-Err.fault ∷ told) (unit_seen c.take_snapshot.new.unit) c.save.new.self) (sym c.write.ensures.written) after);
+          subst (λ (journal : Journal). IsLiving config first journal (answers.SaveFailed c.in-Err.fault ∷ told) (unit_seen c.args.unit.now) c.save.new.self) (sym c.write.ensures.written) after);
       caused = λ begun told caused.
-          caused_failed config begun told c.args.store.now c.save.new.self caused c.take_snapshot.new.buffers.state c.in-Err.fault c.save.ensures.driver.calls
+          caused_failed config begun told c.args.store.now c.save.new.self caused c.take_snapshot.new.state c.in-Err.fault c.save.ensures.driver.calls
           (c.in-Err.ensures.answers caused.held_now caused.spare_now caused.running).failed
           (λ is. (c.in-Err.ensures.causes caused.held_now caused.spare_now caused.running).flash (ap Err is))
           (λ is. (c.in-Err.ensures.causes caused.held_now caused.spare_now caused.running).spent (ap Err is))

@@ -9,4 +9,4 @@ pub returns-clause-fits : goal.returns-clause-fits
 returns-clause-fits g c =
     let life = start_from (config_of c.args.unit.now) (unit_seen c.args.unit.now).base in
     let way = c.requires.under_way in
-    subst (Fits (config_of c.args.unit.now)) (sym (c.apply_into.ensures.state.written life way.past way.stands)) (saved_states_fit life way.past way.valid way.fits)
+    subst (Fits (config_of c.args.unit.now)) (sym (c.persist.ensures.saved life way.past way.stands)) (saved_states_fit life way.past way.valid way.fits)

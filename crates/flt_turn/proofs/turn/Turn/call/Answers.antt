@@ -33,16 +33,7 @@ returns-clause-call g c =
       refused = search rules;
       call = record {
         place = told.extends;
-        reply = c.apply-reply.ensures.answer ∙ (λ i. g.M.Machine.answer (told.start_is i) (told.before i) c.args.op);
+        reply = c.apply-reply.ensures.answer ∙ (λ i. g.M.Stepper.answer (told.start_is i) (told.before i) c.args.op);
         admitted = told.admitted;
       };
     }
-
-pub returns-clause-written : goal.returns-clause-written
-returns-clause-written g c =
-    let took = c.take_turn-place in
-    let nonzero = c.if-seat-eq0.false in
-    let left = c.seat.invariant.left_is in
-    let told = called _ _ _ c.seat.inside.token.me.0 took.new.token.me.0 c.end_turn.new.token.me took.result.1 c.apply-reply.new.self c.args.op took.result.0 _ c.seat.view_is c.seat.invariant.number_is (omega arith)
-    (ap (λ me. me.0) took.ensures.turn) took.ensures.found c.apply-reply.ensures.takes.journal c.requires.admitted (c.end_turn.ensures.done c.args.op) (c.end_turn.ensures.lock.0 ∙ took.ensures.lock.0) in
-    c.apply-reply.ensures.written ∙ (λ i. g.M.Machine.written (told.start_is i) (told.before i) c.args.op c.args.out.now)

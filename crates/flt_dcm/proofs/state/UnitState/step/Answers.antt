@@ -1,24 +1,8 @@
 use Rattle.std.proofs.Common.{◌∷◌, refl, rules, sym, subst}
-use Rattle.flt_model.specs.Start.{Start, History}
 use Rattle.flt_model.specs.declared.call.Op.TheVariants as ops
-use Rattle.flt_dem.proofs.IdleLemmas.{stands_idle}
-use Rattle.flt_dcm.specs.Unit.{UnitView, Stands}
-use Rattle.flt_dcm.proofs.SessionLemmas.{sessions_kept}
-use Rattle.flt_dcm.proofs.state.UnitState.apply_alone_into.Goals as goal
-
-stands_snapshot : (life : Start) (past : History) (unit : UnitView) → Stands life past unit → Stands life (ops.Snapshot ∷ past) unit
-stands_snapshot life past unit s = record {
-  dem = stands_idle life past unit.dem ops.Snapshot tt s.dem;
-  sessions = sessions_kept past ops.Snapshot unit.sessions tt s.sessions;
-  base = s.base;
-}
-
-stands_saved : (life : Start) (past : History) (generation : _) (unit : UnitView) → Stands life past unit → Stands life (ops.Saved generation ∷ past) unit
-stands_saved life past generation unit s = record {
-  dem = stands_idle life past unit.dem (ops.Saved generation) tt s.dem;
-  sessions = sessions_kept past (ops.Saved generation) unit.sessions tt s.sessions;
-  base = s.base;
-}
+use Rattle.flt_dcm.specs.Unit.{Stands}
+use Rattle.flt_dcm.proofs.UnitLemmas.{stands_snapshot, stands_saved}
+use Rattle.flt_dcm.proofs.state.UnitState.step.Goals as goal
 
 pub returns-in-Request-clause-applied : goal.returns-in-Request-clause-applied
 returns-in-Request-clause-applied g c = record {

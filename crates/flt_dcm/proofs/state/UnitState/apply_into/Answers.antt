@@ -1,6 +1,0 @@
-use Rattle.std.proofs.Common.{◌∷◌}
-use Rattle.flt_dcm.proofs.UnitLemmas.{says_standard}
-use Rattle.flt_dcm.proofs.state.UnitState.apply_into.Goals as goal
-
-pub returns-clause-standard : goal.returns-clause-standard
-returns-clause-standard g c = λ life past s. says_standard life (c.args.op.now ∷ past) c.apply_alone_into.new.self (c.apply_alone_into.ensures.applied.stands life past s)
