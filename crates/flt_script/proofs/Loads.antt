@@ -1,9 +1,10 @@
 -- The script of a load keeps to the limits of scripts.
-use Rattle.std.proofs.Common.{◌≡◌, ℕ, zero, suc, ◌+◌, ◌*◌, ◌/◌, ◌%◌, ◌<◌, ◌≤◌, List, [], ◌∷◌, ◌++◌, length, Bool, true, false, cond, ◌&&◌, Ok, refl, ap, ◌∙◌, arith, inl, inr, length-append, add-one}
+use Rattle.std.proofs.Common.{◌≡◌, ℕ, zero, suc, ◌+◌, ◌*◌, ◌/◌, ◌%◌, ◌^◌, ◌<◌, ◌≤◌, List, [], ◌∷◌, ◌++◌, length, Bool, true, false, cond, ◌&&◌, Ok, refl, sym, ap, ◌∙◌, arith, inl, inr, ⊎_elim, length-append, add-one}
 use Rattle.std.specs.Prelude.{◌==◌, filter, map, sum_by}
 use Rattle.std.specs.List.{list_all, flat_map, range_with_len}
-use Rattle.std.proofs.lemmas.Bool.{lt-ltb, and_parts}
-use Rattle.std.proofs.lemmas.List.{length-map, map-append}
+use Rattle.std.proofs.lemmas.Bool.{cases_lt, lt-ltb, and_parts}
+use Rattle.std.proofs.lemmas.Bool.Decides.{nat_tests}
+use Rattle.std.proofs.lemmas.List.{append-nil, append_assoc, length-map, map-append}
 use Rattle.std.proofs.lemmas.List.Elements.{filter-append}
 use Rattle.std.proofs.lemmas.List.Folds.{list_all-append}
 use Rattle.std.proofs.lemmas.List.FromFn.{length-range_with_len}
@@ -307,6 +308,67 @@ lane_more count lane place =
 pub number_more : (count place number next : ℕ) → number ≡ load_number count place → next ≡ next_number number → next ≡ load_number count (place + 1)
 unfolding load_number
 number_more count place number next e made = rw (add-one, made, e) refl
+
+-- ---- a lane, round by round
+
+-- The second and the fourth number after a number, which are as linear in it as the next one.
+second_number : (number : ℕ) → (number * 1117952617 + 1406932606) % 2 ^ 31 ≡ next_number (next_number number)
+second_number number = omega arith
+
+pub fourth_number : (number : ℕ) → (number * 1845919505 + 1449466924) % 2 ^ 31 ≡ next_number (next_number (next_number (next_number number)))
+fourth_number number =
+    let twice : (number * 1845919505 + 1449466924) % 2 ^ 31 ≡ ((number * 1117952617 + 1406932606) % 2 ^ 31 * 1117952617 + 1406932606) % 2 ^ 31 = omega arith in
+    twice ∙ rw (second_number number, second_number (next_number (next_number number))) refl
+
+pub four_more : (count place number next : ℕ) → number ≡ load_number count place → next ≡ next_number (next_number (next_number (next_number number)))
+    → next ≡ load_number count (suc (suc (suc (suc place))))
+unfolding load_number
+four_more count place number next e made = rw (made, e) refl
+
+-- Before its place in a round a lane reports nothing.
+pub none_yet : (count lane round places : ℕ) → lane < 4 → places ≤ lane → load_lane count lane (4 * round + places) ≡ load_lane count lane (4 * round)
+none_yet count lane round zero few within = ap (load_lane count lane) (omega arith)
+none_yet count lane round (suc places) few within =
+    let place = 4 * round + places in
+    let other : (place % 4 == lane) ≡ false = grind (arith, nat_tests, few, within) in
+    ap (load_lane count lane) (let after : 4 * round + suc places ≡ place + 1 = omega arith in after)
+    ∙ lane_more count lane place
+    ∙ ap (λ (t : Bool). load_lane count lane place ++ cond t (load_step lane (load_number count (place + 1)) ∷ []) []) other
+    ∙ append-nil (load_lane count lane place)
+    ∙ none_yet count lane round places few (omega (arith, within))
+
+-- After it, it has reported once.
+once : (count lane round places : ℕ) → lane < places → places ≤ 4
+    → load_lane count lane (4 * round + places) ≡ load_lane count lane (4 * round) ++ load_step lane (load_number count (4 * round + lane + 1)) ∷ []
+once count lane round zero within most = absurd (omega (arith, within))
+once count lane round (suc places) within most =
+    let place = 4 * round + places in
+    let lane_at = λ (t : Bool). load_lane count lane place ++ cond t (load_step lane (load_number count (place + 1)) ∷ []) [] in
+    let few : lane < 4 = omega (arith, within, most) in
+    let more : load_lane count lane (4 * round + suc places) ≡ lane_at (place % 4 == lane) =
+    ap (load_lane count lane) (let after : 4 * round + suc places ≡ place + 1 = omega arith in after) ∙ lane_more count lane place in
+    ⊎_elim
+    (λ before.
+        let other : (place % 4 == lane) ≡ false = grind (arith, nat_tests, before, most) in
+        more ∙ ap lane_at other ∙ append-nil (load_lane count lane place) ∙ once count lane round places before (omega (arith, most)))
+    (λ last.
+        let same : places ≡ lane = omega (arith, within, last) in
+        let here : (place % 4 == lane) ≡ true = grind (arith, nat_tests, same, few) in
+        more
+        ∙ ap lane_at here
+        ∙ ap (λ (steps : List Step). steps ++ load_step lane (load_number count (place + 1)) ∷ []) (none_yet count lane round places few last)
+        ∙ ap (λ (p : ℕ). load_lane count lane (4 * round) ++ load_step lane (load_number count (4 * round + p + 1)) ∷ []) same)
+    (cases_lt lane places)
+
+-- The same of what a list has for its steps.
+pub reported : {T : Type 0} (of : Step → T) (earlier : List T) (count lane round places : ℕ) → lane < places → places ≤ 4
+    → (earlier ++ map of (load_lane count lane (4 * round))) ++ of (load_step lane (load_number count (4 * round + lane + 1))) ∷ []
+    ≡ earlier ++ map of (load_lane count lane (4 * round + places))
+reported of earlier count lane round places within most =
+    let before = load_lane count lane (4 * round) in
+    let last = load_step lane (load_number count (4 * round + lane + 1)) in
+    append_assoc earlier (map of before) (of last ∷ [])
+    ∙ ap (λ more. earlier ++ more) (sym (map-append of before (last ∷ [])) ∙ ap (map of) (sym (once count lane round places within most)))
 
 pub plain_more : (steps : List Step) (s : Step) → plain_parts (steps ++ s ∷ []) ≡ plain_parts steps ++ inl s ∷ []
 plain_more [] s = refl

@@ -1,6 +1,6 @@
-ghost use Rattle.std.specs.Prelude.{◌≡◌, ◌<◌, ◌≤◌, ◌++◌, IfOk, OnOk, map};
+ghost use Rattle.std.specs.Prelude.{◌≡◌, ◌<◌, ◌≤◌, ◌+◌, ◌++◌, IfOk, OnOk, map};
 ghost use Rattle.std.specs.List.{flat_map};
-ghost use Rattle.flt_script.specs.Load.{load_event, load_config, plain_parts, next_number, load_report, load_step, load_lane, load_lanes, load_life, shown_life, load_script};
+ghost use Rattle.flt_script.specs.Load.{load_event, load_config, plain_parts, next_number, load_number, load_report, load_step, load_lane, load_lanes, load_life, shown_life, load_script};
 ghost use Rattle.flt_step.specs.Part.{parts_of};
 ghost use Rattle.flt_step.specs.declared.step.Step.{Step};
 ghost use Rattle.flt_step.specs.declared.step.Part.TheVariants.{One};
@@ -82,6 +82,25 @@ fn load_report(kind: u32) -> Report
     }
 }
 
+/// The fourth number after a number of the generator: that of the next report of the same lane. It is as linear in the number as the
+/// next one is.
+fn fourth_number(number: u32) -> u32
+    ensures { result ≡ next_number (next_number (next_number (next_number number))) }
+{
+    ((u64::from(number) * 1_845_919_505 + 1_449_466_924) % (1 << 31)) as u32
+}
+
+/// The number of the first report of a lane.
+fn first_number(count: u32, lane: u32) -> u32
+    ensures { result ≡ load_number count (lane + 1) }
+{
+    let mut number = next_number(count);
+    for _place in 0..lane {
+        number = next_number(number);
+    }
+    number
+}
+
 /// What a lane reports by a number, on one of its four events.
 fn load_step(lane: u32, number: u32) -> Step
     requires { lane < 4 }
@@ -117,17 +136,18 @@ impl OfStep for Part {
     }
 }
 
-/// Adds what a lane reports.
+/// Adds what a lane reports: once in each round of the lanes.
 fn add_lane<T: OfStep>(list: &mut Vec<T>, count: u32, lane: u32) -> Result<(), AllocError>
     requires { lane < 4 }
     ensures { OnOk result (list.new.items ≡ list.old.items ++ map T.of (load_lane count lane count)) }
 {
-    let mut number = count;
-    for place in 0..count {
-        number = next_number(number);
-        if place % LOAD_LANES == lane {
-            list.push(T::of(load_step(lane, number)))?;
-        }
+    let mut number = first_number(count, lane);
+    for _round in 0..count / LOAD_LANES {
+        list.push(T::of(load_step(lane, number)))?;
+        number = fourth_number(number);
+    }
+    if lane < count % LOAD_LANES {
+        list.push(T::of(load_step(lane, number)))?;
     }
     Ok(())
 }
