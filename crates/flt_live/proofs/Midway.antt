@@ -2,7 +2,7 @@
 use Rattle.std.proofs.Common.{◌≡◌, ◌<◌, ◌∷◌, ℕ, List, refl, sym, subst, arith}
 use Rattle.flt_config.specs.declared.config.Config.{Config}
 use Rattle.flt_flash.specs.Blocks.{BlocksState}
-use Rattle.flt_flash.specs.Calls.{Follows, SameValues}
+use Rattle.flt_flash.specs.Calls.{Follows}
 use Rattle.flt_flash.specs.Content.{Content, missing, bytes as holding}
 use Rattle.flt_flash.specs.declared.blocks.Blocks.{Ghosts}
 use Rattle.flt_flash.proofs.CallsInARow.{more_calls, no_call}
@@ -10,7 +10,7 @@ use Rattle.flt_model.specs.Start.{Start, History as Calls}
 use Rattle.flt_model.specs.Answer.{answer}
 use Rattle.flt_model.specs.Reply.{Reply}
 use Rattle.flt_model.specs.declared.call.Op.{Op}
-use Rattle.flt_store_model.specs.Holding.{Generation, SameApplications}
+use Rattle.flt_store_model.specs.Holding.{Generation}
 use Rattle.flt_store_model.specs.Layout.{applications, application_number}
 use Rattle.flt_dcm.specs.Unit.{Stands, UnitView}
 use Rattle.flt_queue.specs.declared.job.QueueOp.{QueueOp}
@@ -25,9 +25,8 @@ use Rattle.flt_life_model.specs.Actions.{IsQueueCall, IsStepCall, action_of}
 use Rattle.flt_life_model.specs.Answers.{Told}
 use Rattle.flt_life_model.specs.Applications.{AreHeld, GetsBy, answers_of, jobs_told}
 use Rattle.flt_life_model.specs.Chain.{start_from}
-use Rattle.flt_life_model.specs.Journal.{Journal, calls_of}
+use Rattle.flt_life_model.specs.Journal.{calls_of}
 use Rattle.flt_life_model.specs.Ordered.{Deed}
-use Rattle.flt_life_model.specs.Played.{IsGot}
 use Rattle.flt_life_model.specs.SoFar.{IsCaused}
 use Rattle.flt_life_model.specs.declared.action.Action.{Action}
 use Rattle.flt_life_model.specs.declared.action.Action.TheVariants as actions
@@ -37,7 +36,7 @@ use Rattle.flt_life_model.proofs.HeldBlocks.{apart, held_beside, held_by, held_d
 use Rattle.flt_life_model.proofs.Keeping.{kept_entry, kept_other}
 use Rattle.flt_lives.specs.Living.{IsLiving}
 use Rattle.flt_lives.specs.Draining.{HasDrained}
-use Rattle.flt_live.specs.Made.{IsAnswered, IsMidway, IsSave, MakesStep, Made, SavesSo, deeds_made, answers_of_made, journal_of, with_calls, with_deed_by, with_save}
+use Rattle.flt_live.specs.Made.{IsAnswered, IsMidway, IsSave, MakesStep, Made, SavesSo, deeds_made, answers_of_made, journal_of, with_calls, with_deed_by}
 use Rattle.flt_lives.specs.Reading.{IsReadOf, ReadsSo}
 
 module _ {B : Type 0} {b : Ghosts B} (c : Config) (step : Step) (told : Told) where

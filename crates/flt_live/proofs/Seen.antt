@@ -1,5 +1,5 @@
 -- A life of a session, in the words of a life of a run.
-use Rattle.std.proofs.Common.{◌≡◌, ◌∙◌, inl, inr, ℕ, ◌+◌, List, [], ◌∷◌, ◌++◌, length, map, reverse, refl, sym, ap, subst, arith}
+use Rattle.std.proofs.Common.{◌≡◌, ◌∙◌, inl, List, [], ◌∷◌, ◌++◌, length, map, reverse, refl, sym, ap, arith}
 use Rattle.std.proofs.lemmas.List.{append-nil, length-reverse, map-append, reverse-append, reverse-reverse}
 use Rattle.flt_queue.specs.Queue.{History}
 use Rattle.flt_step.specs.declared.step.Step.{Step}

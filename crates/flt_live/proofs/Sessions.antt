@@ -7,7 +7,7 @@ use Rattle.flt_store_model.specs.Holding.{Generation, IsSound}
 use Rattle.flt_store_model.specs.Laws.{IsGiven}
 use Rattle.flt_store_model.proofs.ImageLaws.{held_stands, spare_stands}
 use Rattle.flt_life_model.specs.Chain.{LifeView}
-use Rattle.flt_life_model.specs.Laws.{BeginsNoOlder, IsNoOlder, IsSoundIn, acknowledged_in, generation_of_life, last_acknowledged, number_acknowledged}
+use Rattle.flt_life_model.specs.Laws.{BeginsNoOlder, IsNoOlder, acknowledged_in, generation_of_life, last_acknowledged, number_acknowledged}
 use Rattle.flt_life_model.specs.Moment.{moment_of}
 use Rattle.flt_life_model.specs.declared.life.Boot.{Boot}
 use Rattle.flt_life_model.specs.declared.life.Boot.TheVariants as boots

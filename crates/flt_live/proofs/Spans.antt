@@ -1,24 +1,20 @@
 -- The lives of a session one after the other.
-use Rattle.std.proofs.Common.{◌≡◌, ◌≤◌, ◌∙◌, ◌<◌, ◌+◌, ℕ, Bool, List, [], ◌∷◌, Option, Some, None, refl, sym, ap, subst, arith}
-use Rattle.std.specs.Prelude.{◌^◌, ◌-◌, min, length, IsTrue, IsFalse}
+use Rattle.std.proofs.Common.{◌≡◌, ◌≤◌, ◌∙◌, ◌+◌, ℕ, Bool, List, [], ◌∷◌, Option, Some, None, refl, sym, ap, subst, arith}
+use Rattle.std.specs.Prelude.{◌^◌, ◌-◌, min, length, IsTrue}
 use Rattle.flt_config.specs.declared.config.Config.{Config}
 use Rattle.flt_config.specs.declared.persist.Persist.{Persist}
 use Rattle.flt_dcm.specs.Unit.{UnitView}
 use Rattle.flt_flash.specs.Blocks.{BlocksState}
-use Rattle.flt_flash.specs.Content.{Content}
 use Rattle.flt_flash.specs.declared.blocks.Blocks.{Ghosts}
 use Rattle.flt_io.specs.Fault.{Rose}
 use Rattle.flt_queue.specs.declared.queue.JobQueue.{JobQueue}
-use Rattle.flt_queue.specs.Queue.{History}
 use Rattle.flt_store.specs.declared.store.Store.{Store}
 use Rattle.flt_store.specs.Store.{driver_of, numbered}
-use Rattle.flt_life_model.specs.Answers.{Told}
-use Rattle.flt_life_model.specs.Applications.{AreGot, HoldApplications, up_to_done}
+use Rattle.flt_life_model.specs.Applications.{AreGot, HoldApplications}
 use Rattle.flt_life_model.specs.Causes.{AreCaused}
 use Rattle.flt_life_model.specs.Chain as chain
 use Rattle.flt_life_model.specs.Chain.{IsLifeBegunBy, KeepsApplications, Leaves, LifeView, start_from, told_of}
 use Rattle.flt_life_model.specs.Moment.{IsOn, Medium, moment_of}
-use Rattle.flt_life_model.specs.Ordered.{Deed}
 use Rattle.flt_life_model.specs.SoFar.{IsKeptSince}
 use Rattle.flt_life_model.specs.declared.life.Boot.{Boot}
 use Rattle.flt_life_model.specs.declared.life.Boot.TheVariants as boots
@@ -30,8 +26,8 @@ use Rattle.flt_live.specs.declared.living.LifeEnd.TheVariants.{Ended, Memory, Po
 use Rattle.flt_live.specs.Ahead.{ahead_with}
 use Rattle.flt_live.specs.Begun.{BeginsOn, IsBegunBy, without_steps}
 use Rattle.flt_live.specs.Heard.{SaysLine, Talk}
-use Rattle.flt_live.specs.Lived.{GoesOnBy, IsLifeLived, TakesLines, UnlessLost}
-use Rattle.flt_live.specs.Made.{IsMidway, Made, deeds_made, answers_of_made, journal_of}
+use Rattle.flt_live.specs.Lived.{GoesOnBy, IsLifeLived, UnlessLost}
+use Rattle.flt_live.specs.Made.{IsMidway, Made, answers_of_made, journal_of}
 use Rattle.flt_live.specs.Session.{SourceFailed}
 use Rattle.flt_live.specs.Shelf.{GivesBack}
 use Rattle.flt_live.specs.Span.{ArePassed, AreSpans, BeginsSo, IsFoundBehind, IsSpan, IsWholeLife, LifeSpan, LivesPassed, SameBlocks, WentOn, next_life, seen_as}

@@ -19,7 +19,7 @@ use Rattle.flt_life_model.specs.SoFar.{IsCaused}
 use Rattle.flt_life_model.specs.declared.answer.StepAnswer.TheVariants as answers
 use Rattle.flt_life_model.proofs.Causing.{caused_job, caused_same}
 use Rattle.flt_life_model.proofs.HeldBlocks.{hand_taken, held_beside, held_done}
-use Rattle.flt_lives.specs.Draining.{CarriesJobs, TakenJob, Drains, HasDrained, IsDraining, IsJobTaken, behind_jobs}
+use Rattle.flt_lives.specs.Draining.{CarriesJobs, TakenJob, HasDrained, IsDraining, IsJobTaken, behind_jobs}
 
 -- What a take handed out was the next job.
 pub job_out : (next : Option Job) (job : Job) → replies.Job job ≡ handed_out next → next ≡ Some job

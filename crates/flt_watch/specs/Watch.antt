@@ -1,5 +1,5 @@
 -- What a watch leaves: its status, with its cause; what was written; and what is handed out.
-use Rattle.std.specs.Prelude.{◌≡◌, ◌⊎◌, ℕ, List, [], ◌∷◌, false, Option, None, Ok, Err, IsTrue, IsFalse, Result}
+use Rattle.std.specs.Prelude.{◌≡◌, ◌⊎◌, ℕ, List, [], ◌∷◌, Ok, Err, IsTrue, IsFalse, Result}
 use Rattle.std.specs.Io.KnownBytes.{Appends, IsAtEnd}
 use Rattle.flt_io.specs.Fault.{Rose}
 use Rattle.flt_config.specs.declared.config.DidUse.{DidUse}

@@ -1,4 +1,4 @@
-use Rattle.std.proofs.Common.{◌∙◌, List, inl, inr, refl, sym, subst, rules, Global}
+use Rattle.std.proofs.Common.{List, inl, inr, refl, subst, rules, Global}
 use Rattle.std.specs.Prelude.{IsTrue, Vec}
 use Rattle.flt_step.specs.declared.step.Part.{Part}
 use Rattle.flt_life_model.specs.Lives.{lists}

@@ -1,5 +1,4 @@
-use Rattle.std.proofs.Common.{◌≡◌, ◌∙◌, ◌∷◌, [], Some, inl, inr, refl, sym, ap, subst, arith}
-use Rattle.std.specs.Prelude.{IfOk, IsTrue}
+use Rattle.std.proofs.Common.{◌∙◌, ◌∷◌, [], Some, inl, inr, refl, sym, ap, subst, arith}
 use Rattle.flt_flash.specs.Blocks.{DeviceState}
 use Rattle.flt_io.specs.Status.{status_number}
 use Rattle.flt_dcm.specs.Whole.{unit_seen}
@@ -14,7 +13,6 @@ use Rattle.flt_live.specs.Lived.{IsLostFor}
 use Rattle.flt_live.proofs.Hearing.{rose_later}
 use Rattle.flt_live.specs.Shelf.{GivesBack}
 use Rattle.flt_live.proofs.Spans.{found_behind, is_span, none_passed, nothing_pulled, number_more, one_more, serves_on, span_of, spans_to, unread_of}
-use Rattle.flt_live.proofs.session.live_on.Given as given
 use Rattle.flt_live.proofs.session.live_on.Goals as goal
 
 pub loop-init : goal.loop-init

@@ -1,5 +1,4 @@
 use Rattle.std.proofs.Common.{◌∷◌}
-use Rattle.flt_dcm.specs.Whole.{unit_seen}
 use Rattle.flt_dcm.proofs.UnitLemmas.{says_standard}
 use Rattle.flt_dcm.proofs.unit.Unit.apply_into.Goals as goal
 
