@@ -6,13 +6,9 @@ use Rattle.flt_flash.specs.Calls.{Follows}
 use Rattle.flt_flash.specs.Content.{Content, missing, bytes as holding}
 use Rattle.flt_flash.specs.declared.blocks.Blocks.{Ghosts}
 use Rattle.flt_flash.proofs.CallsInARow.{more_calls, no_call}
-use Rattle.flt_model.specs.Start.{Start, History as Calls}
-use Rattle.flt_model.specs.Answer.{answer}
-use Rattle.flt_model.specs.Reply.{Reply}
-use Rattle.flt_model.specs.declared.call.Op.{Op}
-use Rattle.flt_store_model.specs.Holding.{Generation}
+use Rattle.flt_store_model.specs.Holding.{Generation, SameApplications}
 use Rattle.flt_store_model.specs.Layout.{applications, application_number}
-use Rattle.flt_dcm.specs.Unit.{Stands, UnitView}
+use Rattle.flt_dcm.specs.Unit.{UnitView}
 use Rattle.flt_queue.specs.declared.job.QueueOp.{QueueOp}
 use Rattle.flt_queue.specs.Reply.{QueueReply}
 use Rattle.flt_queue.specs.declared.queue.JobQueue.{JobQueue}
@@ -21,11 +17,10 @@ use Rattle.flt_queue.specs.Stands as standing
 use Rattle.flt_step.specs.declared.step.Step.{Step}
 use Rattle.flt_store.specs.declared.store.Store.{Store}
 use Rattle.flt_store.specs.Store.{IsRunning, driver_of}
-use Rattle.flt_life_model.specs.Actions.{IsQueueCall, IsStepCall, action_of}
+use Rattle.flt_life_model.specs.Actions.{IsQueueCall, action_of}
 use Rattle.flt_life_model.specs.Answers.{Told}
-use Rattle.flt_life_model.specs.Applications.{AreHeld, GetsBy, answers_of, jobs_told}
+use Rattle.flt_life_model.specs.Applications.{AreHeld, GetsBy, MayHold, answers_of, jobs_told, up_to_done}
 use Rattle.flt_life_model.specs.Chain.{start_from}
-use Rattle.flt_life_model.specs.Journal.{calls_of}
 use Rattle.flt_life_model.specs.Ordered.{Deed}
 use Rattle.flt_life_model.specs.SoFar.{IsCaused}
 use Rattle.flt_life_model.specs.declared.action.Action.{Action}
@@ -33,10 +28,13 @@ use Rattle.flt_life_model.specs.declared.action.Action.TheVariants as actions
 use Rattle.flt_life_model.specs.declared.answer.StepAnswer.TheVariants as answers
 use Rattle.flt_life_model.proofs.Causing.{caused_first}
 use Rattle.flt_life_model.proofs.HeldBlocks.{apart, held_beside, held_by, held_deed}
-use Rattle.flt_life_model.proofs.Keeping.{kept_entry, kept_other}
+use Rattle.flt_life_model.proofs.Keeping.{kept_other}
 use Rattle.flt_lives.specs.Living.{IsLiving}
 use Rattle.flt_lives.specs.Draining.{HasDrained}
-use Rattle.flt_live.specs.Made.{IsAnswered, IsMidway, IsSave, MakesStep, Made, SavesSo, deeds_made, answers_of_made, journal_of, with_calls, with_deed_by}
+use Rattle.flt_lives.specs.Alone.{IsPlain}
+use Rattle.flt_lives.specs.Carried.{IsSave, with_calls}
+use Rattle.flt_lives.specs.Steps.{MakesPlainStep}
+use Rattle.flt_live.specs.Made.{IsAnswered, IsMidway, IsNoArm, MakesStep, Made, deeds_made, answers_of_made, journal_of, with_deed_by}
 use Rattle.flt_lives.specs.Reading.{IsReadOf, ReadsSo}
 
 module _ {B : Type 0} {b : Ghosts B} (c : Config) (step : Step) (told : Told) where
@@ -96,22 +94,38 @@ module _ (first : ℕ → Content) (past : History) (earlier : List Deed) (value
   read_gets answers.Armed is held = absurd is
   read_gets answers.Dark is held = absurd is
 
+-- What the application blocks hold stays where no deed touched them.
+held_still : (first : ℕ → Content) (past : History) (jobs : ℕ) (deeds : List Deed) (values now : ℕ → Content) → SameApplications values now → AreHeld first past jobs deeds values
+    → AreHeld first past jobs deeds now
+held_still first past jobs deeds values now same held = record {
+  counts_jobs = held.counts_jobs;
+  held = λ block below. subst (MayHold block (first (application_number block)) (up_to_done jobs past)) (sym (same block below)) (held.held block below);
+  got = held.got;
+  told = held.told;
+}
+
 module _ {B : Type 0} {b : Ghosts B} (c : Config) (step : Step) where
-  pub made_call : (op : Op) (place : ℕ) (reply : Reply) → action_of step ≡ actions.Call op → IsStepCall op → (unit next_unit : UnitView) (queue : JobQueue) (store : Store B b)
-      → ((life : Start) (past : Calls) → Stands life past unit → Stands life (op ∷ past) next_unit) → ((life : Start) (past : Calls) → Stands life past unit → reply ≡ answer life past op)
-      → MakesStep c step (answers.Dem (record { place = place; reply = reply })) unit next_unit queue queue store store
-  made_call op place reply is step_call unit next_unit queue store stands replied = λ first found begun made mid.
-      let start = start_from c first.state in
+  pub made_plain : (action : Action) (told : Told) → action_of step ≡ action → IsPlain action → IsNoArm action → (unit next_unit : UnitView) (queue : JobQueue) (store next_store : Store B b)
+      → MakesPlainStep c action unit next_unit store next_store told → SameApplications (driver_of store).value (driver_of next_store).value → Follows (driver_of store) (driver_of next_store)
+      → MakesStep c step told unit next_unit queue queue store next_store
+  made_plain (actions.Call op) told is plain no_arm unit next_unit queue store next_store makes same follows = λ first found begun made mid.
       let living = mid.living in
-      midway_more c step (answers.Dem (record { place = place; reply = reply })) (actions.Call op) is first found begun made unit next_unit queue queue store store mid mid.jobs
-      (record {
-        stands = stands start (calls_of (journal_of made)) living.stands;
-        held = living.held;
-        spare = living.spare;
-        running = living.running;
-        kept = kept_entry c first (journal_of made) (answers_of_made made) living.held living.spare living.kept 0 op step_call;
-      })
-      mid.queued (replied start (calls_of (journal_of made)) living.stands, refl) (no_call (driver_of store)) mid.caused mid.held
+      midway_more c step told (actions.Call op) is first found begun made unit next_unit queue queue store next_store mid mid.jobs
+      (makes.living first (journal_of made) (answers_of_made made) living) mid.queued (makes.answered (start_from c first.state) (journal_of made) living.stands, refl) follows
+      (makes.caused begun.device.faults (answers_of_made made) mid.caused)
+      (held_still found mid.jobs (jobs_told (answers_of_made made)) (deeds_made made) (driver_of store).value (driver_of next_store).value same mid.held)
+  made_plain actions.Save told is plain no_arm unit next_unit queue store next_store makes same follows = λ first found begun made mid.
+      let living = mid.living in
+      let saved : IsSave told = makes.answered (start_from c first.state) (journal_of made) living.stands in
+      midway_more c step told actions.Save is first found begun made unit next_unit queue queue store next_store mid mid.jobs
+      (makes.living first (journal_of made) (answers_of_made made) living) mid.queued (saved, refl) follows
+      (makes.caused begun.device.faults (answers_of_made made) mid.caused)
+      (held_deed found (deeds_made made) (step, told) (driver_of store).value (driver_of next_store).value same (save_tells_none told (answers_of_made made) saved) mid.jobs
+      (λ held. subst (λ (does : Action). GetsBy found mid.jobs (deeds_made made) does told) (sym is) tt) mid.held)
+  made_plain (actions.Queue op) told is plain no_arm unit next_unit queue store next_store makes same follows = absurd plain
+  made_plain actions.Drain told is plain no_arm unit next_unit queue store next_store makes same follows = absurd plain
+  made_plain (actions.Get block) told is plain no_arm unit next_unit queue store next_store makes same follows = absurd plain
+  made_plain (actions.Arm arm) told is plain no_arm unit next_unit queue store next_store makes same follows = absurd no_arm
 
   pub made_queue : (op : QueueOp) (place : ℕ) (reply : QueueReply) → action_of step ≡ actions.Queue op → IsQueueCall op → (unit : UnitView) (queue next_queue : JobQueue) (store : Store B b)
       → ((jobs : History) → standing.QueueStands c.blocks jobs queue → standing.QueueStands c.blocks (op ∷ jobs) next_queue) → ((jobs : History) → standing.QueueStands c.blocks jobs queue → reply ≡ answer_q jobs op)
@@ -120,14 +134,6 @@ module _ {B : Type 0} {b : Ghosts B} (c : Config) (step : Step) where
       midway_more c step (answers.Queue (record { place = place; reply = reply })) (actions.Queue op) is first found begun made unit unit queue next_queue store store mid (op ∷ mid.jobs)
       mid.living (stands mid.jobs mid.queued) (replied mid.jobs mid.queued, refl) (no_call (driver_of store)) mid.caused
       (held_beside found (jobs_told (answers_of_made made)) (deeds_made made) (driver_of store).value op mid.jobs (apart op queue_call) mid.held)
-
-  pub made_save : (told : Told) → action_of step ≡ actions.Save → (unit next_unit : UnitView) (queue : JobQueue) (store next_store : Store B b) → SavesSo c unit next_unit store next_store told
-      → MakesStep c step told unit next_unit queue queue store next_store
-  made_save told is unit next_unit queue store next_store saves = λ first found begun made mid.
-      midway_more c step told actions.Save is first found begun made unit next_unit queue queue store next_store mid mid.jobs (saves.living first (journal_of made) (answers_of_made made) mid.living) mid.queued (saves.is, refl) saves.keeps_driver
-      (saves.caused begun.device.faults (answers_of_made made) mid.caused)
-      (held_deed found (deeds_made made) (step, told) (driver_of store).value (driver_of next_store).value saves.applications (save_tells_none told (answers_of_made made) saves.is) mid.jobs
-      (λ held. subst (λ (does : Action). GetsBy found mid.jobs (deeds_made made) does told) (sym is) tt) mid.held)
 
   pub made_get : (told : Told) (block : ℕ) → action_of step ≡ actions.Get block → block < applications → (unit : UnitView) (queue : JobQueue) (store next_store : Store B b) → ReadsSo c block store next_store told
       → MakesStep c step told unit unit queue queue store next_store

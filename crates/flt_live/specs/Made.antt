@@ -2,14 +2,11 @@
 use Rattle.std.specs.Prelude.{◌≡◌, ℕ, List, [], ◌∷◌}
 use Rattle.flt_config.specs.declared.config.Config.{Config}
 use Rattle.flt_model.specs.Start.{Start}
-use Rattle.flt_model.specs.Answer.{answer}
-use Rattle.flt_model.specs.declared.call.Op.{Op}
-use Rattle.flt_model.specs.declared.call.Op.TheVariants as ops
 use Rattle.flt_flash.specs.Blocks.{BlocksState}
 use Rattle.flt_flash.specs.Calls.{Follows}
 use Rattle.flt_flash.specs.Content.{Content}
 use Rattle.flt_flash.specs.declared.blocks.Blocks.{Ghosts}
-use Rattle.flt_store_model.specs.Holding.{Generation, SameApplications}
+use Rattle.flt_store_model.specs.Holding.{Generation}
 use Rattle.flt_dcm.specs.Unit.{UnitView}
 use Rattle.flt_queue.specs.declared.job.QueueOp.{QueueOp}
 use Rattle.flt_queue.specs.declared.queue.JobQueue.{JobQueue}
@@ -22,13 +19,14 @@ use Rattle.flt_life_model.specs.Actions.{action_of}
 use Rattle.flt_life_model.specs.Answers.{Told}
 use Rattle.flt_life_model.specs.Applications.{AreHeld, answers_of, jobs_told}
 use Rattle.flt_life_model.specs.Chain.{start_from}
-use Rattle.flt_life_model.specs.Journal.{Journal, entry, calls_of}
+use Rattle.flt_life_model.specs.Journal.{Journal}
 use Rattle.flt_life_model.specs.Ordered.{Deed}
 use Rattle.flt_life_model.specs.Played.{IsGot}
 use Rattle.flt_life_model.specs.SoFar.{IsCaused}
 use Rattle.flt_life_model.specs.declared.action.Action.{Action}
 use Rattle.flt_life_model.specs.declared.action.Action.TheVariants as actions
 use Rattle.flt_life_model.specs.declared.answer.StepAnswer.TheVariants as answers
+use Rattle.flt_lives.specs.Carried.{IsReply, IsSave, with_calls}
 use Rattle.flt_lives.specs.Living.{IsLiving}
 use Rattle.flt_lives.specs.Draining.{Drains}
 
@@ -39,17 +37,6 @@ Made = Step × Told
 abbrev pub IsNoArm : Action → Type 0
 IsNoArm (actions.Arm arm) = ⊥
 IsNoArm _ = Unit {0}
-
--- The calls of a save: a snapshot, and then the number, if it was answered with one.
-abbrev pub with_save : Told → Journal → Journal
-with_save (answers.Saved number) before = entry 0 (ops.Saved number) ∷ entry 0 ops.Snapshot ∷ before
-with_save _ before = entry 0 ops.Snapshot ∷ before
-
--- The calls of the status machine that a step with this answer adds.
-abbrev pub with_calls : Action → Told → Journal → Journal
-with_calls (actions.Call op) told before = entry 0 op ∷ before
-with_calls actions.Save told before = with_save told before
-with_calls _ told before = before
 
 -- The journal of the steps so far.
 abbrev pub journal_of : List Made → Journal
@@ -70,17 +57,6 @@ deeds_made (made ∷ earlier) = with_deed_by (action_of made.0) made.0 made.1 (d
 -- Their answers.
 abbrev pub answers_of_made : List Made → List Told
 answers_of_made made = answers_of (deeds_made made)
-
--- The answer is the machine's to a call after these.
-abbrev pub IsReply : Start → Journal → Op → Told → Type 0
-IsReply start journal op (answers.Dem told) = told.reply ≡ answer start (calls_of journal) op
-IsReply start journal op _ = ⊥
-
--- A save is answered with a number, or with why there is none.
-abbrev pub IsSave : Told → Type 0
-IsSave (answers.Saved number) = Unit {0}
-IsSave (answers.SaveFailed fault) = Unit {0}
-IsSave _ = ⊥
 
 -- The answer is the queue's to a call after these.
 abbrev pub IsQueueReply : History → QueueOp → Told → Type 0
@@ -125,12 +101,3 @@ module _ {B : Type 0} {b : Ghosts B} where
   abbrev pub MakesStep : Config → Step → Told → (unit next_unit : UnitView) → (queue next_queue : JobQueue) → (store next_store : Store B b) → Type 0
   MakesStep c step told unit next_unit queue next_queue store next_store = (first : Generation) (found : ℕ → Content) (begun : BlocksState) (made : List Made)
       → IsMidway c first found begun made unit queue store → IsMidway c first found begun ((step, told) ∷ made) next_unit next_queue next_store
-
-  -- A save was made and answered so.
-  pub record SavesSo (c : Config) (unit next_unit : UnitView) (store next_store : Store B b) (told : Told) : Type 0 where
-    pub is : IsSave told
-    pub living : (first : Generation) (journal : Journal) (earlier : List Told) → IsLiving c first journal earlier unit store
-        → IsLiving c first (with_save told journal) (told ∷ earlier) next_unit next_store
-    pub caused : (begun : ℕ) (earlier : List Told) → IsCaused c begun earlier store → IsCaused c begun (told ∷ earlier) next_store
-    pub applications : SameApplications (driver_of store).value (driver_of next_store).value
-    pub keeps_driver : Follows (driver_of store) (driver_of next_store)

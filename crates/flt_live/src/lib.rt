@@ -25,4 +25,4 @@ pub use living::{LifeEnd, Lived, Room, live};
 pub use program::run_live;
 pub use reader::{Line, LineReader};
 pub use session::run_session;
-pub use shelf::{FileShelf, MemShelf, Shelf};
+pub use shelf::{FileShelf, MemShelf, Shelf, Stop};

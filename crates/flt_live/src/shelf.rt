@@ -1,6 +1,7 @@
 //! Where the flash is between two lives of a session.
 ghost use Rattle.std.specs.Prelude.{◌≡◌, ◌*◌, ◌<◌, ◌≤◌, ℕ, Bool, List, Option, Some, IfOk, IsTrue, length};
 ghost use Rattle.flt_file.specs.Layout.{image_in};
+ghost use Rattle.flt_file.specs.MemBytes.{memory_bytes};
 ghost use Rattle.flt_live.specs.Shelf.{GivesBack, kept_in};
 
 use flt_file::{ByteStore, FileBytes, FlashFile, MemBytes, OpenFault, open_flash};
@@ -63,17 +64,52 @@ pub struct KeptImage {
     pub bytes: Vec<u8>,
 }
 
+/// When a flash is cut off from its bytes: after this many writes. The next write leaves its first bytes, this many, and none after it
+/// leaves any.
+#[derive(Clone, Copy)]
+pub struct Stop {
+    /// How many writes are made.
+    pub writes: u64,
+    /// How many bytes the next one leaves.
+    pub torn: usize,
+}
+
 /// A flash in memory, which is blank at first.
 #[derive(Drop)]
 pub struct MemShelf<'a, R> {
     rt: &'a R,
     kept: Option<KeptImage>,
+    stop: Option<Stop>,
 }
 
 impl<'a, R: AllocGlobal> MemShelf<'a, R> {
     /// A blank flash.
     pub fn new(rt: &'a R) -> MemShelf<'a, R> {
-        MemShelf { rt, kept: None }
+        MemShelf {
+            rt,
+            kept: None,
+            stop: None,
+        }
+    }
+
+    /// A blank flash that is cut off from its bytes in the first life. What the bytes are then is what a process leaves that is killed there, and
+    /// the life after it finds them.
+    pub fn stopping(rt: &'a R, stop: Stop) -> MemShelf<'a, R> {
+        MemShelf {
+            rt,
+            kept: None,
+            stop: Some(stop),
+        }
+    }
+}
+
+/// A store of these bytes, which may stop. It is read once before its first write.
+fn store_of(bytes: Vec<u8>, stop: Option<Stop>) -> MemBytes
+    ensures { memory_bytes result ≡ bytes.items }
+{
+    match stop {
+        Some(stop) => MemBytes::failing(bytes, stop.writes.saturating_add(1), stop.torn),
+        None => MemBytes::new(bytes),
     }
 }
 
@@ -107,7 +143,8 @@ impl<R: AllocGlobal> Shelf<FlashFile<MemBytes>> for MemShelf<'_, R> {
     fn open(&mut self, pages: u16) -> Result<FlashFile<MemBytes>, OpenFault> {
         let alloc = self.rt.alloc();
         let bytes = bytes_for(alloc, &mut self.kept, pages)?;
-        Ok(FlashFile::load(alloc, MemBytes::new(bytes), pages)?)
+        let store = store_of(bytes, self.stop.take());
+        Ok(FlashFile::load(alloc, store, pages)?)
     }
 
     fn close(&mut self, flash: FlashFile<MemBytes>) {

@@ -34,7 +34,36 @@ use Rattle.flt_life_model.specs.Played.{ActionMakes, ActionQueues, IsLife, IsMad
 use Rattle.flt_life_model.proofs.Makings.{parts_more, parts_none}
 use Rattle.flt_fork.proofs.Mixings.{blocks_longer, follow_more, one_follows}
 use Rattle.flt_fork.proofs.Rising.{rise_alone, rise_more, rise_none}
-use Rattle.flt_lives.specs.Carried.{IsCarriedOut}
+use Rattle.flt_lives.specs.Carried.{IsAnsweredBy, IsAtPlace, IsCarriedOut, with_calls}
+
+-- ---- a step that was made, with its calls in a journal
+
+pub carried_out : (start : Start) (before after : Journal) (action : Action) (told : Told) → IsAnsweredBy start before action told → IsAtPlace (length before) told
+    → after ≡ with_calls action told before → IsCarriedOut start before action after told
+carried_out start before after (actions.Call op) (answers.Dem told) reply place written = (written, ap answers.Dem (λ i. record { place = place i; reply = reply i }))
+carried_out start before after (actions.Call op) (answers.Queue told) reply place written = absurd reply
+carried_out start before after (actions.Call op) (answers.Saved number) reply place written = absurd reply
+carried_out start before after (actions.Call op) (answers.SaveFailed fault) reply place written = absurd reply
+carried_out start before after (actions.Call op) (answers.Drained done failed) reply place written = absurd reply
+carried_out start before after (actions.Call op) (answers.Bytes found) reply place written = absurd reply
+carried_out start before after (actions.Call op) answers.NoBlock reply place written = absurd reply
+carried_out start before after (actions.Call op) answers.BlockFlash reply place written = absurd reply
+carried_out start before after (actions.Call op) answers.Armed reply place written = absurd reply
+carried_out start before after (actions.Call op) answers.Dark reply place written = absurd reply
+carried_out start before after actions.Save (answers.Saved number) saved place written = written
+carried_out start before after actions.Save (answers.SaveFailed fault) saved place written = written
+carried_out start before after actions.Save (answers.Dem told) saved place written = absurd saved
+carried_out start before after actions.Save (answers.Queue told) saved place written = absurd saved
+carried_out start before after actions.Save (answers.Drained done failed) saved place written = absurd saved
+carried_out start before after actions.Save (answers.Bytes found) saved place written = absurd saved
+carried_out start before after actions.Save answers.NoBlock saved place written = absurd saved
+carried_out start before after actions.Save answers.BlockFlash saved place written = absurd saved
+carried_out start before after actions.Save answers.Armed saved place written = absurd saved
+carried_out start before after actions.Save answers.Dark saved place written = absurd saved
+carried_out start before after (actions.Arm arm) told armed place written = (written, armed)
+carried_out start before after (actions.Queue op) told none place written = none
+carried_out start before after actions.Drain told none place written = none
+carried_out start before after (actions.Get block) told none place written = none
 
 module _ {X : Type 0} where
   get_at : (front : List X) (x : X) (rest : List X) → slice_get (front ++ x ∷ rest) (length front) ≡ Some x

@@ -1,5 +1,5 @@
 -- What the steps of a life without other lanes need, and what they leave.
-use Rattle.std.specs.Prelude.{◌≡◌, ℕ, ◌+◌, ◌<◌, ◌≤◌, ◌^◌, List, [], ◌∷◌, ◌++◌, Vec, reverse, vec_len}
+use Rattle.std.specs.Prelude.{◌≡◌, ℕ, ◌+◌, ◌<◌, ◌≤◌, ◌^◌, List, [], ◌∷◌, ◌++◌, Vec, length, reverse, vec_len}
 use Rattle.std.specs.Vec.{vec_capacity}
 use Rattle.flt_config.specs.declared.config.Config.{Config}
 use Rattle.flt_flash.specs.declared.arm.Arm.{Arm}
@@ -8,7 +8,8 @@ use Rattle.flt_flash.specs.Blocks.{BlocksState, DeviceState}
 use Rattle.flt_model.specs.declared.call.Op.{Op}
 use Rattle.flt_store_model.specs.Holding.{Generation}
 use Rattle.flt_dcm.specs.declared.unit.Unit.{Unit as Machine}
-use Rattle.flt_dcm.specs.Unit.{Stands}
+use Rattle.flt_dcm.specs.Unit.{Stands, UnitView}
+use Rattle.flt_model.specs.Start.{Start}
 use Rattle.flt_dcm.specs.Whole.{config_of, unit_seen}
 use Rattle.flt_step.specs.declared.step.Step.{Step}
 use Rattle.flt_step.specs.Part.{PartOf}
@@ -20,13 +21,13 @@ use Rattle.flt_life_model.specs.Actions.{IsPossible, arm_count}
 use Rattle.flt_life_model.specs.Answers.{Told}
 use Rattle.flt_life_model.specs.Chain.{start_from}
 use Rattle.flt_life_model.specs.Going.{GoesOn, WereGiven}
-use Rattle.flt_life_model.specs.Journal.{calls_of}
+use Rattle.flt_life_model.specs.Journal.{Journal, calls_of}
 use Rattle.flt_life_model.specs.Played.{IsLife}
 use Rattle.flt_life_model.specs.Room.{told_in}
 use Rattle.flt_life_model.specs.SoFar.{IsCaused}
 use Rattle.flt_lives.specs.declared.account.Account.{Account}
 use Rattle.flt_lives.specs.Alone.{IsPlain}
-use Rattle.flt_lives.specs.Carried.{IsCarriedOut}
+use Rattle.flt_lives.specs.Carried.{IsAnsweredBy, IsAtPlace, with_calls}
 use Rattle.flt_lives.specs.Living.{IsLiving, IsUnderWay, deeds_told, with_answer}
 
 -- A possible step that leaves the queue and the application blocks alone, and for whose arm the bench of a device has a place.
@@ -37,6 +38,15 @@ pub record IsPlainStep (c : Config) (action : Action) (device : DeviceState) : T
   pub plain : IsPlain action
   -- The bench has a place for its arm.
   pub arms : device.bench.armed + arm_count action ≤ 64
+
+-- The same, where a place of the bench is asked for by an arm alone.
+pub record IsPlainAction (c : Config) (action : Action) (device : DeviceState) : Type 0 where
+  -- The step is possible.
+  pub possible : IsPossible c action
+  -- It leaves the queue and the application blocks alone.
+  pub plain : IsPlain action
+  -- The bench has a place for its arm, if it makes one.
+  pub arms : 0 < arm_count action → device.bench.armed < 64
 
 -- A journal has room for this many calls, and a number for the place of each.
 pub record HasCallsLeft {A : Type 0} (count : ℕ) (journal : Vec (Entry Op) A) : Type 0 where
@@ -68,6 +78,18 @@ pub record IsNewAccount (account : Account) : Type 0 where
   -- There is no answer.
   pub answers : told_in account.replies ≡ []
 
+module _ {B : Type 0} {b : Ghosts B} where
+  -- A step was made and has this answer: it is that of the machine after the calls before it, a life that was living goes on with the calls of the
+  -- step, and each failure has its cause.
+  pub record MakesPlainStep (c : Config) (action : Action) (unit next_unit : UnitView) (store next_store : Store B b) (told : Told) : Type 0 where
+    -- The answer is the machine's or the store's, whatever calls came before.
+    pub answered : (start : Start) (journal : Journal) → Stands start (calls_of journal) unit → IsAnsweredBy start journal action told
+    -- A life that was living goes on with these calls and this answer.
+    pub living : (first : Generation) (journal : Journal) (earlier : List Told) → IsLiving c first journal earlier unit store
+        → IsLiving c first (with_calls action told journal) (with_answer action told earlier) next_unit next_store
+    -- If the answer is a failure, it has its cause.
+    pub caused : (begun : ℕ) (earlier : List Told) → IsCaused c begun earlier store → IsCaused c begun (with_answer action told earlier) next_store
+
 module _ {F : _} {g : _} {B : Type 0} {b : Ghosts B} where
   -- A unit and a store between two steps: the unit has this configuration and stands for some calls, and the store runs.
   pub record AreOnTheirWay (c : Config) (unit : Machine F g) (store : Store B b) : Type 0 where
@@ -78,17 +100,15 @@ module _ {F : _} {g : _} {B : Type 0} {b : Ghosts B} where
     -- The store runs.
     pub alive : IsAlive c store
 
-  -- A step was made and has this answer: its calls are after the others, a life that was living goes on, and each failure has its cause.
+  -- The same, and its calls are in a journal, where its answer says.
   pub record AnswersStep {A : Type 0} (c : Config) (action : Action) (unit next_unit : Machine F g) (store next_store : Store B b)
       (before after : Vec (Entry Op) A) (told : Told) : Type 0 where
-    -- The calls of the step come after the others, and its answer is that of its machine at their place.
-    pub calls_and_answer : (first : Generation) → Stands (start_from c first.state) (calls_of (reverse before.items)) (unit_seen unit)
-        → IsCarriedOut (start_from c first.state) (reverse before.items) action (reverse after.items) told
-    -- A life that was living goes on with this answer.
-    pub living : (first : Generation) (earlier : List Told) → IsLiving c first (reverse before.items) earlier (unit_seen unit) store
-        → IsLiving c first (reverse after.items) (with_answer action told earlier) (unit_seen next_unit) next_store
-    -- If the answer is a failure, it has its cause.
-    pub caused : (begun : ℕ) (earlier : List Told) → IsCaused c begun earlier store → IsCaused c begun (with_answer action told earlier) next_store
+    -- The step was made.
+    pub step : MakesPlainStep c action (unit_seen unit) (unit_seen next_unit) store next_store told
+    -- Its calls come after the others.
+    pub written : reverse after.items ≡ with_calls action told (reverse before.items)
+    -- The answer has the place of its call.
+    pub placed : IsAtPlace (length (reverse before.items)) told
 
   -- The same, with the answer after those of an account.
   pub record TakesStep (c : Config) (action : Action) (unit next_unit : Machine F g) (store next_store : Store B b) (before after : Account) : Type 0 where

@@ -13,7 +13,7 @@ ghost use Rattle.flt_lives.specs.Steps.{AreOnTheirWay, GivesArms, HasTakenSteps,
 use crate::account::Account;
 use crate::buffers::Buffers;
 use crate::engine::{Engine, Lived};
-use crate::step::make_step;
+use crate::step::{make_step, write_calls};
 use flt_config::ValidConfig;
 use flt_dcm::Unit;
 use flt_flash::Blocks;
@@ -40,14 +40,10 @@ fn take_step<D: Blocks + Drop>(
     ensures applications { SameApplications (driver_of store.old).value (driver_of store.new).value }
     ensures gives { GivesArms (arms_of (action_of step.now)) (arm_count (action_of step.now)) (driver_of store.old) (driver_of store.new) }
 {
-    let answer = make_step(
-        unit,
-        store,
-        config,
-        buffers,
-        action_of(step),
-        &mut account.journal,
-    );
+    let action = action_of(step);
+    let place = account.journal.len() as u32;
+    let answer = make_step(unit, store, config, buffers, &action, place);
+    write_calls(action, &answer, &mut account.journal);
     account.replies.keep(answer, buffers.response.as_slice());
 }
 

@@ -1,4 +1,4 @@
-//! Whole runs, watches and examinations, and the streams that they read and write.
+//! Whole runs, watches and examinations, sessions that are cut off, and the streams that they read and write.
 mod audits;
 mod examinations;
 mod gates;
@@ -6,6 +6,7 @@ mod hostile;
 mod orders;
 mod program;
 mod reports;
+mod stops;
 mod streams;
 mod watches;
 mod worked;

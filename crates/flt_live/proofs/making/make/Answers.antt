@@ -1,17 +1,26 @@
-use Rattle.std.proofs.Common.{◌<◌, ◌∙◌, ◌∷◌, sym, subst, arith}
+use Rattle.std.proofs.Common.{◌≡◌, ◌<◌, ◌∙◌, ◌∷◌, ap, sym, subst, arith}
 use Rattle.flt_store_model.specs.Layout.{applications}
 use Rattle.flt_dcm.specs.Whole.{unit_seen}
 use Rattle.flt_queue.specs.Stands.{QueueStands}
-use Rattle.flt_life_model.specs.Actions.{IsPossible}
+use Rattle.flt_life_model.specs.Actions.{IsPossible, arm_count}
+use Rattle.flt_lives.specs.Alone.{IsPlain}
 use Rattle.flt_life_model.specs.Answers.{told_with}
-use Rattle.flt_live.proofs.Midway.{made_call, made_queue, made_save, made_drain, made_get}
+use Rattle.flt_live.proofs.Midway.{made_plain, made_queue, made_drain, made_get}
 use Rattle.flt_live.proofs.making.make.Goals as goal
 
 pub returns-in-Call-clause-made : goal.returns-in-Call-clause-made
 returns-in-Call-clause-made g c = λ step is.
-    let possible = subst (IsPossible c.args.config.now) c.in-Call.is c.requires.possible in
-    made_call c.args.config.now step c.in-Call.op _ _ (is ∙ c.in-Call.is) possible.0 (unit_seen c.args.unit.now) (unit_seen c.apply_into-reply.new.self) c.args.queue.now c.args.store.now
-    c.apply_into-reply.ensures.applied.stands c.apply_into-reply.ensures.applied.answer
+    let plain = subst IsPlain (sym c.in-Call.is) tt in
+    let none : arm_count c.args.action ≡ 0 = ap arm_count c.in-Call.is in
+    made_plain c.args.config.now step c.args.action _ is plain c.requires.no_arm (unit_seen c.args.unit.now) (unit_seen c.make_step.new.unit) c.args.queue.now c.args.store.now c.make_step.new.store
+    c.make_step.ensures.made c.make_step.ensures.applications (c.make_step.ensures.keeps_driver none)
+
+pub returns-in-Save-clause-made : goal.returns-in-Save-clause-made
+returns-in-Save-clause-made g c = λ step is.
+    let plain = subst IsPlain (sym c.in-Save.is) tt in
+    let none : arm_count c.args.action ≡ 0 = ap arm_count c.in-Save.is in
+    made_plain c.args.config.now step c.args.action _ is plain c.requires.no_arm (unit_seen c.args.unit.now) (unit_seen c.make_step-in-Save.new.unit) c.args.queue.now c.args.store.now c.make_step-in-Save.new.store
+    c.make_step-in-Save.ensures.made c.make_step-in-Save.ensures.applications (c.make_step-in-Save.ensures.keeps_driver none)
 
 pub returns-in-Queue-clause-made : goal.returns-in-Queue-clause-made
 returns-in-Queue-clause-made g c = λ step is.
@@ -20,11 +29,6 @@ returns-in-Queue-clause-made g c = λ step is.
     made_queue c.args.config.now step c.in-Queue.op _ _ (is ∙ c.in-Queue.is) (subst (IsPossible c.args.config.now) c.in-Queue.is c.requires.possible).0 (unit_seen c.args.unit.now) old c.apply-reply.new.self c.args.store.now
     (λ jobs stands. subst (λ n. QueueStands n (c.in-Queue.op ∷ jobs) c.apply-reply.new.self) blocks (c.apply-reply.ensures.stands jobs (subst (λ n. QueueStands n jobs old) (sym blocks) stands)))
     (λ jobs stands. c.apply-reply.ensures.answer jobs (subst (λ n. QueueStands n jobs old) (sym blocks) stands))
-
-pub returns-in-Save-clause-made : goal.returns-in-Save-clause-made
-returns-in-Save-clause-made g c = λ step is.
-    let response = c.save.new.buffers.response.items in
-    made_save c.args.config.now step (told_with response c.save.result) (is ∙ c.in-Save.is) (unit_seen c.args.unit.now) (unit_seen c.save.new.unit) c.args.queue.now c.args.store.now c.save.new.store (c.save.ensures.saves response)
 
 pub returns-in-Get-clause-made : goal.returns-in-Get-clause-made
 returns-in-Get-clause-made g c = λ step is.

@@ -9,10 +9,12 @@ use Rattle.flt_step.specs.Part.{PartOf, part_of, parts_of}
 use Rattle.flt_life_model.specs.Actions.{IsPossible, action_of, all_arms, arms_of, arm_count}
 use Rattle.flt_life_model.specs.Answers.{Told}
 use Rattle.flt_life_model.specs.Played.{IsLife}
-use Rattle.flt_life_model.specs.Journal.{Journal}
+use Rattle.flt_life_model.specs.Journal.{Journal, calls_of}
 use Rattle.flt_life_model.specs.Room.{told_in}
 use Rattle.flt_life_model.proofs.Sizes.{own_count}
+use Rattle.flt_dcm.specs.Unit.{Stands}
 use Rattle.flt_dcm.specs.Whole.{unit_seen}
+use Rattle.flt_store_model.specs.Holding.{Generation}
 use Rattle.flt_lives.specs.Alone.{IsAlone, actions_in}
 use Rattle.flt_life_model.specs.Chain.{start_from}
 use Rattle.flt_store.specs.Store.{driver_of}
@@ -21,7 +23,7 @@ use Rattle.flt_life_model.specs.SoFar.{IsCaused}
 use Rattle.flt_lives.specs.Living.{HasRoomFor, IsLiving, deeds_told, with_answer}
 use Rattle.flt_lives.proofs.Deeds.{deeds_told_more}
 use Rattle.flt_life_model.proofs.Riding.{goes_further, goes_nowhere}
-use Rattle.flt_lives.proofs.Playing.{life_more, no_parts}
+use Rattle.flt_lives.proofs.Playing.{carried_out, life_more, no_parts}
 use Rattle.flt_life_model.proofs.Giving.{given_further, arms_more, none_given}
 use Rattle.flt_lives.proofs.Rooms.{left_more, made_more, parts_are, one_of, one_alone}
 use Rattle.flt_lives.proofs.plain.take_steps.Goals as goal
@@ -72,6 +74,13 @@ loop-part-preserved g c =
     let first_arms = (driver_of c.args.store.now).device.bench.arms in
     let last_arms = (driver_of c.take_step.new.store).device.bench.arms in
     let inv = c.loop-part.invariant in
+    let earlier = reverse c.loop-part.account.journal.items in
+    let living_on = λ (first : Generation) (answered : List Told) (living : IsLiving config first earlier answered (unit_seen c.loop-part.unit) c.loop-part.store).
+        subst (λ (journal : Journal). IsLiving config first journal (with_answer step last answered) (unit_seen c.take_step.new.unit) c.take_step.new.store) (sym takes.step.written)
+        (takes.step.step.living first earlier answered living) in
+    let carried = λ (first : Generation) (stands : Stands (start_from config first.state) (calls_of earlier) (unit_seen c.loop-part.unit)).
+        carried_out (start_from config first.state) earlier (reverse c.take_step.new.account.journal.items) step last
+        (takes.step.step.answered (start_from config first.state) earlier stands) takes.step.placed takes.step.written in
     record {
       ready = c.take_step.ensures.ready;
       possible = All-tail (IsPossible c.args.config.now) step rest (subst (All (IsPossible c.args.config.now)) left inv.possible);
@@ -80,15 +89,15 @@ loop-part-preserved g c =
       taken = record {
         living = λ first living.
             subst (λ (now : List Told). IsLiving config first (reverse c.take_step.new.account.journal.items) now (unit_seen c.take_step.new.unit) c.take_step.new.store) (sym deeds)
-            (takes.step.living first (deeds_told before told) (inv.taken.living first living));
+            (living_on first (deeds_told before told) (inv.taken.living first living));
         played = λ first living.
             (let start = start_from config first.state in
             subst (λ (l : List (PartOf Step)). IsLife start l (told_in c.take_step.new.account.replies) [] c.take_step.new.account.journal.items []) (sym parts_more)
             (subst (λ (own : List Told). IsLife start (before ++ inl c.in-One.step ∷ []) own [] c.take_step.new.account.journal.items []) (sym takes.answers)
             (life_more start before told [] c.loop-part.account.journal.items c.take_step.new.account.journal.items c.in-One.step last
-            (inv.taken.played first living) (takes.step.calls_and_answer first (inv.taken.living first living).stands))));
+            (inv.taken.played first living) (carried first (inv.taken.living first living).stands))));
         caused = λ begun caused.
-            subst (λ (now : List Told). IsCaused config begun now c.take_step.new.store) (sym deeds) (takes.step.caused begun (deeds_told before told) (inv.taken.caused begun caused));
+            subst (λ (now : List Told). IsCaused config begun now c.take_step.new.store) (sym deeds) (takes.step.step.caused begun (deeds_told before told) (inv.taken.caused begun caused));
       };
       applications = λ block below. c.take_step.ensures.applications block below ∙ inv.applications block below;
       keeps_driver = goes_further _ _ _ inv.keeps_driver c.take_step.ensures.gives.keeps_driver;
