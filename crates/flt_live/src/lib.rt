@@ -4,7 +4,7 @@
 //! It depends on `flt_script` for a line and for the configuration, on `flt_lives` for a step, on `flt_queue` for the write jobs, on
 //! `flt_report` for a line of the answer, and on `flt_file` for the flash. The program above calls
 //! `run_live`, which holds a session by `run_session` over a `Shelf`. That gives the flash of each life: `FileShelf` opens a file, and
-//! `MemShelf` keeps it in memory. Read `specs/Answered.antt` first (what one line leaves, and what is written for it), then `specs/Lived.antt`
+//! `MemShelf` keeps it in memory, and may cut it off from its bytes, as a kill does. Read `specs/Answered.antt` first (what one line leaves, and what is written for it), then `specs/Lived.antt`
 //! (what a life comes to).
 #![tactic(auto)]
 

@@ -206,12 +206,7 @@ impl Stepper<ArrayVec<u8, RESPONSE>> for Watched {
 
     ghost answer = { reply_after };
 
-    fn step(
-        &mut self,
-        lent: &Lent,
-        op: &Op,
-        response: &mut ArrayVec<u8, RESPONSE>,
-    ) -> ReplyKind {
+    fn step(&mut self, lent: &Lent, op: &Op, response: &mut ArrayVec<u8, RESPONSE>) -> ReplyKind {
         let kind = self.guarded.step(&lent.dids, op, response);
         self.tell(&lent.subscribers, op);
         kind

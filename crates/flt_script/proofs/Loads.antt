@@ -349,15 +349,15 @@ once count lane round (suc places) within most =
     ap (load_lane count lane) (let after : 4 * round + suc places ≡ place + 1 = omega arith in after) ∙ lane_more count lane place in
     ⊎_elim
     (λ before.
-        let other : (place % 4 == lane) ≡ false = grind (arith, nat_tests, before, most) in
-        more ∙ ap lane_at other ∙ append-nil (load_lane count lane place) ∙ once count lane round places before (omega (arith, most)))
+    let other : (place % 4 == lane) ≡ false = grind (arith, nat_tests, before, most) in
+    more ∙ ap lane_at other ∙ append-nil (load_lane count lane place) ∙ once count lane round places before (omega (arith, most)))
     (λ last.
-        let same : places ≡ lane = omega (arith, within, last) in
-        let here : (place % 4 == lane) ≡ true = grind (arith, nat_tests, same, few) in
-        more
-        ∙ ap lane_at here
-        ∙ ap (λ (steps : List Step). steps ++ load_step lane (load_number count (place + 1)) ∷ []) (none_yet count lane round places few last)
-        ∙ ap (λ (p : ℕ). load_lane count lane (4 * round) ++ load_step lane (load_number count (4 * round + p + 1)) ∷ []) same)
+    let same : places ≡ lane = omega (arith, within, last) in
+    let here : (place % 4 == lane) ≡ true = grind (arith, nat_tests, same, few) in
+    more
+    ∙ ap lane_at here
+    ∙ ap (λ (steps : List Step). steps ++ load_step lane (load_number count (place + 1)) ∷ []) (none_yet count lane round places few last)
+    ∙ ap (λ (p : ℕ). load_lane count lane (4 * round) ++ load_step lane (load_number count (4 * round + p + 1)) ∷ []) same)
     (cases_lt lane places)
 
 -- The same of what a list has for its steps.

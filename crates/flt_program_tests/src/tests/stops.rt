@@ -14,7 +14,8 @@ const LINES: &[u8] =
     b"cycle 0\nfail 0\nsave\npost 0 01\ndrain\npass 0\nsave\npower\nget 0\nshow 0\n";
 
 /// What is written of a whole session.
-const WHOLE: &str = "life 1 generation 0\ncycle 0 -> taken\nfail 0 -> taken\nsave -> 1\npost 0 01 -> accepted\n\
+const WHOLE: &str =
+    "life 1 generation 0\ncycle 0 -> taken\nfail 0 -> taken\nsave -> 1\npost 0 01 -> accepted\n\
      drain -> written 1 failed 0\npass 0 -> taken\nsave -> 2\nlife 2 generation 2\nget 0 -> 01\n\
      show 0 -> status 2E fdc 0 failed 1 clean 0 stored 1 overflow 0\n";
 
@@ -68,10 +69,20 @@ fn next_life_goes_on(rt: HostRuntime) -> Result<(), Fail> {
                 return Err(Fail::from("memory"));
             };
             let text = str::from_utf8(sink.bytes()).unwrap_or("");
-            assert!(rt; status == Status::Done && text != WHOLE && goes_on(text), "{writes} {torn} {text}");
+            assert!(rt;
+                status == Status::Done && text != WHOLE && goes_on(text),
+                "{writes} {torn} {text}"
+            );
         }
     }
-    let Ok((status, sink)) = session_that_stops(&rt, alloc, Stop { writes: WRITES, torn: 0 }) else {
+    let Ok((status, sink)) = session_that_stops(
+        &rt,
+        alloc,
+        Stop {
+            writes: WRITES,
+            torn: 0,
+        },
+    ) else {
         return Err(Fail::from("memory"));
     };
     assert!(rt; status == Status::Done && sink.bytes() == WHOLE.as_bytes());

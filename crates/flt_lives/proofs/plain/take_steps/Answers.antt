@@ -76,11 +76,11 @@ loop-part-preserved g c =
     let inv = c.loop-part.invariant in
     let earlier = reverse c.loop-part.account.journal.items in
     let living_on = λ (first : Generation) (answered : List Told) (living : IsLiving config first earlier answered (unit_seen c.loop-part.unit) c.loop-part.store).
-        subst (λ (journal : Journal). IsLiving config first journal (with_answer step last answered) (unit_seen c.take_step.new.unit) c.take_step.new.store) (sym takes.step.written)
-        (takes.step.step.living first earlier answered living) in
+    subst (λ (journal : Journal). IsLiving config first journal (with_answer step last answered) (unit_seen c.take_step.new.unit) c.take_step.new.store) (sym takes.step.written)
+    (takes.step.step.living first earlier answered living) in
     let carried = λ (first : Generation) (stands : Stands (start_from config first.state) (calls_of earlier) (unit_seen c.loop-part.unit)).
-        carried_out (start_from config first.state) earlier (reverse c.take_step.new.account.journal.items) step last
-        (takes.step.step.answered (start_from config first.state) earlier stands) takes.step.placed takes.step.written in
+    carried_out (start_from config first.state) earlier (reverse c.take_step.new.account.journal.items) step last
+    (takes.step.step.answered (start_from config first.state) earlier stands) takes.step.placed takes.step.written in
     record {
       ready = c.take_step.ensures.ready;
       possible = All-tail (IsPossible c.args.config.now) step rest (subst (All (IsPossible c.args.config.now)) left inv.possible);
