@@ -5,8 +5,9 @@ use Rattle.flt_config.specs.declared.config.Config.{Config}
 use Rattle.flt_flash.specs.declared.arm.Arm.{Arm}
 use Rattle.flt_flash.specs.declared.blocks.Blocks.{Ghosts}
 use Rattle.flt_flash.specs.Blocks.{BlocksState, DeviceState}
+use Rattle.flt_flash.specs.Calls.{Follows}
 use Rattle.flt_model.specs.declared.call.Op.{Op}
-use Rattle.flt_store_model.specs.Holding.{Generation}
+use Rattle.flt_store_model.specs.Holding.{Generation, SameApplications}
 use Rattle.flt_dcm.specs.declared.unit.Unit.{Unit as Machine}
 use Rattle.flt_dcm.specs.Unit.{Stands, UnitView}
 use Rattle.flt_model.specs.Start.{Start}
@@ -17,7 +18,7 @@ use Rattle.flt_turn.specs.declared.vault.Entry.{Entry}
 use Rattle.flt_store.specs.declared.store.Store.{Store}
 use Rattle.flt_store.specs.Store.{IsAlive}
 use Rattle.flt_life_model.specs.declared.action.Action.{Action}
-use Rattle.flt_life_model.specs.Actions.{IsPossible, arm_count}
+use Rattle.flt_life_model.specs.Actions.{IsPossible, arm_count, arms_of}
 use Rattle.flt_life_model.specs.Answers.{Told}
 use Rattle.flt_life_model.specs.Chain.{start_from}
 use Rattle.flt_life_model.specs.Going.{GoesOn, WereGiven}
@@ -70,6 +71,15 @@ pub record GivesArms (arms : List Arm) (most : ℕ) (before after : BlocksState)
   pub arms_made : WereGiven arms before.device.bench.arms after.device.bench.arms
   -- They were no more than the limit.
   pub armed : after.device.bench.armed ≤ before.device.bench.armed + most
+
+-- What a step that leaves the application blocks alone leaves of the driver.
+pub record StepLeaves (action : Action) (before after : BlocksState) : Type 0 where
+  -- No application block changed.
+  pub applications : SameApplications before.value after.value
+  -- The arm of the step was given, if it makes one.
+  pub gives : GivesArms (arms_of action) (arm_count action) before after
+  -- If it makes none, the driver was called, and nothing else was done with it.
+  pub calls : arm_count action ≡ 0 → Follows before after
 
 -- No call and no answer yet.
 pub record IsNewAccount (account : Account) : Type 0 where

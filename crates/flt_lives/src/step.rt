@@ -13,12 +13,12 @@ ghost use Rattle.flt_dcm.specs.Unit.{Stands, Takes, IsAdmitted, IsTesterCall};
 ghost use Rattle.flt_dcm.specs.Whole.{config_of, unit_seen};
 ghost use Rattle.flt_store.specs.Store.{driver_of};
 ghost use Rattle.flt_life_model.specs.declared.action.Action.TheVariants as actions;
-ghost use Rattle.flt_life_model.specs.Actions.{arm_count, arms_of, call_count, response_size};
+ghost use Rattle.flt_life_model.specs.Actions.{call_count, response_size};
 ghost use Rattle.flt_life_model.specs.Answers.{told_with, response_length, reply_size};
 ghost use Rattle.flt_lives.specs.Carried.{IsAtPlace, with_calls};
 ghost use Rattle.flt_life_model.specs.Journal.{entry};
 ghost use Rattle.flt_lives.specs.Living.{IsUnderWay};
-ghost use Rattle.flt_lives.specs.Steps.{AddsCalls, AreOnTheirWay, GivesArms, IsPlainAction, MakesPlainStep};
+ghost use Rattle.flt_lives.specs.Steps.{AddsCalls, AreOnTheirWay, IsPlainAction, MakesPlainStep, StepLeaves};
 
 use crate::buffers::Buffers;
 use flt_config::{Persist, ValidConfig};
@@ -94,9 +94,7 @@ pub fn make_step<D: Blocks + Drop>(
     ensures made { MakesPlainStep config.now action.now (unit_seen unit.old) (unit_seen unit.new) store.old store.new (told_with buffers.new.response.items result) }
     ensures placed { IsAtPlace place (told_with buffers.new.response.items result) }
     ensures size { length buffers.new.response.items ≤ RESPONSE → response_length result buffers.new.response.items ≤ response_size action.now }
-    ensures applications { SameApplications (driver_of store.old).value (driver_of store.new).value }
-    ensures gives { GivesArms (arms_of action.now) (arm_count action.now) (driver_of store.old) (driver_of store.new) }
-    ensures keeps_driver { arm_count action.now ≡ 0 → Follows (driver_of store.old) (driver_of store.new) }
+    ensures leaves { StepLeaves action.now (driver_of store.old) (driver_of store.new) }
 {
     match action {
         Action::Call(op) => {

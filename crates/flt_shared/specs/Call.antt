@@ -46,8 +46,8 @@ abbrev pub ResponseBytes : Type 0
 ResponseBytes = ArrayVec ℕ
 
 -- No byte: what is beside an answer that is no response.
-abbrev pub no_bytes : ResponseBytes
-no_bytes = record { items = [] }
+abbrev pub no_response : ResponseBytes
+no_response = record { items = [] }
 
 -- The whole reply of a kind, with these bytes where it is a response.
 abbrev pub with_response : ReplyKind → ResponseBytes → Reply

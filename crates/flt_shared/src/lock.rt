@@ -10,7 +10,7 @@ ghost use Rattle.flt_dcm.specs.Unit.{IsAdmitted, Stands};
 ghost use Rattle.flt_turn.specs.Journal.{Interleaves, ops_of};
 ghost use Rattle.flt_turn.specs.Seats.{main_seat, split_off, split_seat, joined_seat};
 ghost use Rattle.flt_turn.specs.Call.{past};
-ghost use Rattle.flt_shared.specs.Call.{Calls, CallsInto, ShowsStandard, no_bytes};
+ghost use Rattle.flt_shared.specs.Call.{Calls, CallsInto, ShowsStandard, no_response};
 ghost use Rattle.flt_shared.specs.Start.{start_of};
 
 use crate::guarded::{BoxedUnit, Guarded};
@@ -217,7 +217,7 @@ impl DemLock {
         out: &mut Persist,
     ) -> Result<Answer<ReplyKind>, HistoryFull<Op>>
         requires lock { IsSeatOf self.now seat.old }
-        ensures call { CallsInto seat.old seat.new ops.Snapshot no_bytes result }
+        ensures call { CallsInto seat.old seat.new ops.Snapshot no_response result }
         ensures kept { OnErr result (out.new ≡ out.old) }
         ensures state { IfOk result (λ told. out.new ≡ saved_after seat.old.start (past told.place seat.new.seen)) }
     {

@@ -4,7 +4,7 @@ use Rattle.flt_life_model.specs.declared.answer.StepAnswer.TheVariants as answer
 use Rattle.flt_step.specs.declared.step.Step.TheVariants as steps
 use Rattle.flt_store.specs.Store.{driver_of}
 use Rattle.flt_turn.specs.Call.{past}
-use Rattle.flt_shared.specs.Call.{no_bytes, whole}
+use Rattle.flt_shared.specs.Call.{no_response, whole}
 use Rattle.flt_life_model.proofs.Causing.{caused_saved, caused_failed}
 use Rattle.flt_life_model.specs.Applications.{answers_of}
 use Rattle.flt_lane.proofs.Carrying.{holds_deed}
@@ -20,7 +20,7 @@ save-requires-clause-fits g c =
 
 pub returns-in-Ok-saved-clause-takes : goal.returns-in-Ok-saved-clause-takes
 returns-in-Ok-saved-clause-takes g c = λ jobs.
-    let taken = whole c.in-Ok._taken no_bytes in
+    let taken = whole c.in-Ok._taken no_response in
     let made = c.in-Ok.ensures.call in
     let told : Told = answers.Saved c.in-Ok-save.generation in
     let kept = c.keep.ensures in
@@ -39,7 +39,7 @@ returns-in-Ok-saved-clause-takes g c = λ jobs.
 
 pub returns-in-Err-clause-takes : goal.returns-in-Err-clause-takes
 returns-in-Err-clause-takes g c = λ jobs.
-    let taken = whole c.in-Ok._taken no_bytes in
+    let taken = whole c.in-Ok._taken no_response in
     let made = c.in-Ok.ensures.call in
     let told : Told = answers.SaveFailed c.in-Err.fault in
     let kept = c.keep-in-Err.ensures in

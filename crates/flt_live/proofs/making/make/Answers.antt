@@ -13,14 +13,14 @@ returns-in-Call-clause-made g c = λ step is.
     let plain = subst IsPlain (sym c.in-Call.is) tt in
     let none : arm_count c.args.action ≡ 0 = ap arm_count c.in-Call.is in
     made_plain c.args.config.now step c.args.action _ is plain c.requires.no_arm (unit_seen c.args.unit.now) (unit_seen c.make_step.new.unit) c.args.queue.now c.args.store.now c.make_step.new.store
-    c.make_step.ensures.made c.make_step.ensures.applications (c.make_step.ensures.keeps_driver none)
+    c.make_step.ensures.made c.make_step.ensures.leaves.applications (c.make_step.ensures.leaves.calls none)
 
 pub returns-in-Save-clause-made : goal.returns-in-Save-clause-made
 returns-in-Save-clause-made g c = λ step is.
     let plain = subst IsPlain (sym c.in-Save.is) tt in
     let none : arm_count c.args.action ≡ 0 = ap arm_count c.in-Save.is in
     made_plain c.args.config.now step c.args.action _ is plain c.requires.no_arm (unit_seen c.args.unit.now) (unit_seen c.make_step-in-Save.new.unit) c.args.queue.now c.args.store.now c.make_step-in-Save.new.store
-    c.make_step-in-Save.ensures.made c.make_step-in-Save.ensures.applications (c.make_step-in-Save.ensures.keeps_driver none)
+    c.make_step-in-Save.ensures.made c.make_step-in-Save.ensures.leaves.applications (c.make_step-in-Save.ensures.leaves.calls none)
 
 pub returns-in-Queue-clause-made : goal.returns-in-Queue-clause-made
 returns-in-Queue-clause-made g c = λ step is.

@@ -56,7 +56,7 @@ returns-clause-takes g c =
 
 pub returns-clause-gives : goal.returns-clause-gives
 returns-clause-gives g c =
-    subst (λ (action : Action). GivesArms (arms_of action) (arm_count action) (driver_of c.args.store.now) (driver_of c.make_step-answer.new.store)) c.action_of-action.ensures c.make_step-answer.ensures.gives
+    subst (λ (action : Action). GivesArms (arms_of action) (arm_count action) (driver_of c.args.store.now) (driver_of c.make_step-answer.new.store)) c.action_of-action.ensures c.make_step-answer.ensures.leaves.gives
 
 pub returns-clause-room : goal.returns-clause-room
 returns-clause-room g c = λ rest room.
@@ -69,3 +69,6 @@ returns-clause-room g c = λ rest room.
     let responses = c.keep.ensures.responses in
     room_after c.args.account.now _ (action_of c.args.step.now) rest room (omega (arith, calls, count)) c.write_calls.ensures.journal.room c.keep.ensures.answers c.keep.ensures.room
     (omega (arith, responses, size, most)) c.keep.ensures.bytes
+
+pub returns-clause-applications : goal.returns-clause-applications
+returns-clause-applications g c = c.make_step-answer.ensures.leaves.applications

@@ -1,4 +1,4 @@
-use Rattle.std.proofs.Common.{◌≡◌, ◌∙◌, ◌<◌, ◌≤◌, [], ap, arith, refl, subst, sym}
+use Rattle.std.proofs.Common.{rules, ◌≡◌, ◌∙◌, ◌<◌, ◌≤◌, [], ap, arith, refl, subst, sym}
 use Rattle.flt_config.specs.declared.config.Config.{Config}
 use Rattle.flt_dcm.specs.ReplyKind.{reply_with}
 use Rattle.flt_flash.specs.Blocks.{BlocksState}
@@ -9,7 +9,7 @@ use Rattle.flt_dcm.specs.Whole.{unit_seen}
 use Rattle.flt_life_model.specs.declared.action.Action.{Action}
 use Rattle.flt_life_model.specs.declared.action.Action.TheVariants as actions
 use Rattle.flt_life_model.specs.declared.answer.StepAnswer.TheVariants as answers
-use Rattle.flt_life_model.specs.Actions.{IsPossible, arm_count, arms_of, response_size}
+use Rattle.flt_life_model.specs.Actions.{IsPossible, arm_count, response_size}
 use Rattle.flt_life_model.specs.Answers.{Told, reply_size, told_with}
 use Rattle.flt_life_model.proofs.Keeping.{kept_entry}
 use Rattle.flt_life_model.proofs.Riding.{goes_by_calls, goes_nowhere}
@@ -17,7 +17,7 @@ use Rattle.flt_life_model.proofs.Causing.{caused_arm}
 use Rattle.flt_life_model.proofs.Giving.{none_given, none_since}
 use Rattle.flt_store.specs.Store.{driver_of}
 use Rattle.flt_lives.specs.Living.{IsUnderWay}
-use Rattle.flt_lives.specs.Steps.{GivesArms, MakesPlainStep}
+use Rattle.flt_lives.specs.Steps.{GivesArms, MakesPlainStep, StepLeaves}
 use Rattle.flt_lives.proofs.Rooms.{size_of_call}
 use Rattle.flt_lives.proofs.step.make_step.Goals as goal
 
@@ -53,14 +53,15 @@ returns-in-Call-clause-size g c = λ few.
     subst (λ (action : Action). reply_size (reply_with c.call-reply.result c.call-reply.new.buffers.response.items) ≤ response_size action) (sym c.in-Call.is)
     (size_of_call c.in-Call.op c.call-reply.result c.call-reply.new.buffers.response.items c.call-reply.ensures.no_response few)
 
-pub returns-in-Call-clause-gives : goal.returns-in-Call-clause-gives
-returns-in-Call-clause-gives g c =
+pub returns-in-Call-clause-leaves : goal.returns-in-Call-clause-leaves
+returns-in-Call-clause-leaves g c =
     let store = driver_of c.args.store.now in
-    subst (λ (action : Action). GivesArms (arms_of action) (arm_count action) store store) (sym c.in-Call.is)
-    (record { keeps_driver = goes_nowhere store; arms_made = none_given store.device.bench.arms; armed = omega arith })
-
-pub returns-in-Call-clause-keeps_driver : goal.returns-in-Call-clause-keeps_driver
-returns-in-Call-clause-keeps_driver g c = λ none. no_call (driver_of c.args.store.now)
+    subst (λ (action : Action). StepLeaves action store store) (sym c.in-Call.is)
+    (record {
+      applications = λ block below. refl;
+      gives = record { keeps_driver = goes_nowhere store; arms_made = none_given store.device.bench.arms; armed = omega arith };
+      calls = λ none. no_call store;
+    })
 
 pub returns-in-Save-clause-made : goal.returns-in-Save-clause-made
 returns-in-Save-clause-made g c =
@@ -77,14 +78,12 @@ gives_none before after follows =
       armed = omega (arith, armed);
     }
 
-pub returns-in-Save-clause-gives : goal.returns-in-Save-clause-gives
-returns-in-Save-clause-gives g c =
+pub returns-in-Save-clause-leaves : goal.returns-in-Save-clause-leaves
+returns-in-Save-clause-leaves g c =
     let before = driver_of c.args.store.now in
     let after = driver_of c.save.new.store in
-    subst (λ (action : Action). GivesArms (arms_of action) (arm_count action) before after) (sym c.in-Save.is) (gives_none before after c.save.ensures.keeps_driver)
-
-pub returns-in-Save-clause-keeps_driver : goal.returns-in-Save-clause-keeps_driver
-returns-in-Save-clause-keeps_driver g c = λ none. c.save.ensures.keeps_driver
+    subst (λ (action : Action). StepLeaves action before after) (sym c.in-Save.is)
+    (record { applications = c.save.ensures.applications; gives = gives_none before after c.save.ensures.keeps_driver; calls = λ none. c.save.ensures.keeps_driver })
 
 pub arm-requires-clause-room : goal.arm-requires-clause-room
 arm-requires-clause-room g c = c.requires.step.arms (subst (λ (action : Action). 0 < arm_count action) (sym c.in-Arm.is) (omega arith))
@@ -116,13 +115,12 @@ returns-in-Arm-clause-made g c =
     } in
     subst (λ (action : Action). MakesPlainStep config action unit unit c.args.store.now c.arm.new.self answers.Armed) (sym c.in-Arm.is) made
 
-pub returns-in-Arm-clause-applications : goal.returns-in-Arm-clause-applications
-returns-in-Arm-clause-applications g c = λ block below. ap (λ (d : BlocksState). d.value (application_number block)) c.arm.ensures.arms.rest
-
-pub returns-in-Arm-clause-keeps_driver : goal.returns-in-Arm-clause-keeps_driver
-returns-in-Arm-clause-keeps_driver g c = λ none.
-    let one : arm_count c.args.action.now ≡ 1 = ap arm_count c.in-Arm.is in
-    absurd (omega (arith, none, one))
+pub returns-in-Arm-clause-leaves : goal.returns-in-Arm-clause-leaves
+returns-in-Arm-clause-leaves g c = record {
+  applications = λ block below. ap (λ (d : BlocksState). d.value (application_number block)) c.arm.ensures.arms.rest;
+  gives = search rules;
+  calls = λ none. (let one : arm_count c.args.action.now ≡ 1 = ap arm_count c.in-Arm.is in absurd (omega (arith, none, one)));
+}
 
 pub returns-in-Save-clause-placed : goal.returns-in-Save-clause-placed
 returns-in-Save-clause-placed g c = c.save.ensures.placed c.args.place c.save.new.buffers.response.items
