@@ -13,7 +13,9 @@ at place event before after = record { place = place; event = event; before = be
 
 -- These calls, the newest first, make these changes and lead to these values of the kinds 0, 1 and 2.
 pub record Leads (life : Start) (past : History) (made : List Change) (values : List ℕ) : Type 0 where
+  -- The calls make these changes.
   pub changes_made : changes life past ≡ made
+  -- They lead to these values.
   pub values_kept : values_after life past ≡ values
 
 -- An event fails and passes. The cycle changes no byte.

@@ -21,6 +21,9 @@ AreTold subscribers values changes answers = FoldsTo (λ before change after. Ar
 -- once to each subscriber, and the bytes are those after the call.
 pub record TellsCall {n : ℕ} {F : _} {g : _} (subscribers : Subscribers n F g) (life : Start) (past : History) (op : Op) (place : ℕ)
     (values answers bytes : List ℕ) : Type 0 where
+  -- The values are those before, with the changes of the call in their order.
   pub values_are : answers ≡ fold (next_values 0) values (changes_from place 0 (statuses_after life past) (statuses_after life (op ∷ past)))
+  -- Each change was reported once to each subscriber of its kind.
   pub called : AreTold subscribers values (changes_from place 0 (statuses_after life past) (statuses_after life (op ∷ past))) answers
+  -- The bytes are those after the call.
   pub noted : bytes ≡ statuses_after life (op ∷ past)

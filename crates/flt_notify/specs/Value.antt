@@ -6,8 +6,11 @@ use Rattle.flt_notify.specs.Changes.{changes}
 
 -- The event's number has 16 bits, and each status byte 8.
 pub record IsInRange (change : Change) : Type 0 where
+  -- The number of the event has 16 bits.
   pub event : change.event < 65536
+  -- The byte before has 8 bits.
   pub before : change.before < 256
+  -- So has the byte after.
   pub after : change.after < 256
 
 -- A change as one number of 32 bits.
