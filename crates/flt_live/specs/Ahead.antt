@@ -39,10 +39,15 @@ IsLineEnd Ended whole after = (whole ≡ []) × IsAtEnd after
 
 -- A line was taken, without a line feed in it, of which the first 514 bytes are kept.
 pub record TakesLine (before after : Option (List ℕ)) (ended : Line) (kept : List ℕ) : Type 0 where
+  -- The bytes of the line, without what ended it.
   pub whole : List ℕ
+  -- None of them is a line feed.
   pub one : All (λ byte. byte ≢ 10) whole
+  -- The first 514 of them are kept.
   pub is : kept ≡ take 514 whole
+  -- They were taken from the source, with what ended the line, and no byte after it.
   pub taken : Consumes before after (whole ++ line_end_of ended)
+  -- The line ended so.
   pub end : IsLineEnd ended whole after
 
 -- The last line has a byte, or there is none.

@@ -24,7 +24,9 @@ use Rattle.flt_live.specs.Made.{MakesStep}
 
 -- There is room for one answer, and for the longest response.
 pub record IsReady (room : Room) : Type 0 where
+  -- There is a place for an answer.
   pub answers : 1 ≤ vec_capacity room.replies.answers
+  -- There is room for the longest response.
   pub responses : 1040 ≤ byte_room room.replies.responses
 
 -- A `power` is reported as such, and every other line as answered.
@@ -47,8 +49,11 @@ module _ {B : Type 0} {b : Ghosts B} where
 
   -- A life that was started: its machine, its queue and its store are at work.
   pub record IsUp (c : Config) (unit : UnitView) (queue : JobQueue) (store : Store B b) : Type 0 where
+    -- The machine is in the state that some calls lead to.
     pub under_way : IsUnderWay c unit
+    -- The queue has as many blocks as the configuration.
     pub blocks : queue.blocks ≡ c.blocks
+    -- The store runs.
     pub alive : IsAlive c store
 
   -- Nothing was done at the line, since memory ran out.
@@ -59,9 +64,13 @@ module _ {B : Type 0} {b : Ghosts B} where
   -- What one line comes to: what it leaves, and which line is written for it, whole or a front of it where the writing failed.
   pub record IsLineAnswered {K : Type 0} (c : Config) (what : Due) (held : K → Option (List ℕ)) (faults : K → ℕ) (before after : K)
       (unit next_unit : UnitView) (queue next_queue : JobQueue) (store next_store : Store B b) (result : Result Answered StreamFault) : Type 0 where
+    -- The line that is due.
     pub line : List ℕ
+    -- It is that of what is to be done, and that was done; or memory ran out, and nothing was done.
     pub answers : Answers c what line unit next_unit queue next_queue store next_store ⊎ LeavesAll result line unit next_unit queue next_queue store next_store
+    -- The line was written, or a front of it if the sink failed.
     pub written : Writes held faults before after line result
+    -- The answer says whether a `power` was read.
     pub told : IfOk result (IsToldBy what)
 
 -- In a dark life no step is made.
@@ -74,7 +83,11 @@ dark_line due.Power = []
 -- What one line of a dark life comes to.
 pub record IsDarkLineAnswered {K : Type 0} (what : Due) (held : K → Option (List ℕ)) (faults : K → ℕ) (before after : K)
     (result : Result Answered StreamFault) : Type 0 where
+  -- The line that is due.
   pub line : List ℕ
+  -- It is that of a dark life, or none if memory ran out.
   pub is : (line ≡ dark_line what) ⊎ ((result ≡ Err Memory) × (line ≡ []))
+  -- The line was written, or a front of it if the sink failed.
   pub written : Writes held faults before after line result
+  -- The answer says whether a `power` was read.
   pub told : IfOk result (IsToldBy what)

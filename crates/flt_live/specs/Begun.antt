@@ -32,9 +32,15 @@ IsBegunBy c before (Refused fault) store = HasBegun c before (Refused fault) sto
 -- It began so, on the blocks that were there: no number, no room and no application block changed, a sound image stays without a fault, and
 -- the count of faults did not fall.
 pub record BeginsOn {B : Type 0} {b : Ghosts B} (c : Config) (before : BlocksState) (boot : Boot) (store : Store B b) : Type 0 where
+  -- It began so, with its cause in the blocks.
   pub is : IsBegunBy c before boot store
+  -- The driver has the numbers that it had.
   pub numbers : (driver_of store).numbers ≡ before.numbers
+  -- It has the room that it had.
   pub room : (driver_of store).room ≡ before.room
+  -- No application block changed.
   pub applications : SameApplications before.value (driver_of store).value
+  -- An image without damage has none now.
   pub no_new_damage : before.damage ≡ None → (driver_of store).damage ≡ None
+  -- The count of faults did not fall.
   pub counts : HasRisenBy 0 before.device.faults (driver_of store).device.faults

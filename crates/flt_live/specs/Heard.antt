@@ -15,9 +15,13 @@ use Rattle.flt_live.specs.Made.{Made}
 -- What a life reads from and writes to: the bytes that are ahead of it and those that the sink holds, where these are known, and how often
 -- the source and the sink failed.
 pub record Talk : Type 0 where
+  -- The bytes that are ahead of it, if they are known.
   pub ahead : Option (List ℕ)
+  -- How often the source failed.
   pub read_faults : ℕ
+  -- The bytes that the sink holds, if they are known.
   pub held : Option (List ℕ)
+  -- How often the sink failed.
   pub write_faults : ℕ
 
 abbrev pub talk : Option (List ℕ) → ℕ → Option (List ℕ) → ℕ → Talk
@@ -25,19 +29,27 @@ talk ahead read_faults held write_faults = record { ahead = ahead; read_faults =
 
 -- The counts of faults never fall.
 pub record IsLater (before after : Talk) : Type 0 where
+  -- The source's count did not fall.
   pub read : before.read_faults ≤ after.read_faults
+  -- Nor did the sink's.
   pub write : before.write_faults ≤ after.write_faults
 
 -- A line was written, and nothing was read.
 pub record SaysLine (line : List ℕ) (before after : Talk) : Type 0 where
+  -- The line was written.
   pub written : Appends before.held after.held line
+  -- Nothing was read.
   pub ahead : after.ahead ≡ before.ahead
+  -- The source did not fail.
   pub read_faults : after.read_faults ≡ before.read_faults
 
 -- A line: its bytes but those that ended it, how it ended, and what was written for it.
 pub record Heard : Type 0 where
+  -- Its bytes, without what ended it.
   pub whole : List ℕ
+  -- How it ended.
   pub ended : Line
+  -- What was written for it.
   pub answer : List ℕ
 
 -- Its text, as far as it is kept.

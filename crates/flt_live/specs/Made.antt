@@ -89,12 +89,19 @@ module _ {B : Type 0} {b : Ghosts B} where
   -- application block holds what it did at the power-up, or what the drains may have left there, and each read was answered by the drains
   -- before it.
   pub record IsMidway (c : Config) (first : Generation) (found : ℕ → Content) (begun : BlocksState) (made : List Made) (unit : UnitView) (queue : JobQueue) (store : Store B b) : Type 0 where
+    -- The calls of the queue.
     pub jobs : History
+    -- The machine is in the state that the calls lead to, and the store holds what was acknowledged last or later.
     pub living : IsLiving c first (journal_of made) (answers_of_made made) unit store
+    -- The queue is in the state that its calls lead to.
     pub queued : standing.QueueStands c.blocks jobs queue
+    -- Each step was answered as is due after those before it.
     pub answered : AreAnswered (start_from c first.state) made jobs
+    -- The driver was called since the life began, and nothing else was done with it.
     pub keeps_driver : Follows begun (driver_of store)
+    -- Each step that failed has its cause.
     pub caused : IsCaused c begun.device.faults (answers_of_made made) store
+    -- Each application block holds what the drains may have left, and each read was answered by it.
     pub held : AreHeld found jobs (jobs_told (answers_of_made made)) (deeds_made made) (driver_of store).value
 
   -- One step more was made, with this answer.

@@ -28,9 +28,13 @@ use Rattle.flt_live.specs.Span.{AreSpans, LivesPassed}
 
 -- The bytes of the configuration that are left, before and after it was read, and how often its source failed.
 pub record Reading : Type 0 where
+  -- The bytes that were left before.
   pub left : Option (List ℕ)
+  -- The bytes that are left afterwards.
   pub left_after : Option (List ℕ)
+  -- How often the source had failed before.
   pub faults : ℕ
+  -- How often it has failed afterwards.
   pub faults_after : ℕ
 
 abbrev pub reading : (left left_after : Option (List ℕ)) (faults faults_after : ℕ) → Reading
@@ -71,16 +75,24 @@ AreIdleLives lives = lives ≡ [] ∷ []
 
 -- The source of the lines failed in the last of these lives.
 pub record SourceFailed (tells : Bool) (c : Config) (before after : Talk) : Type 0 where
+  -- How the last life began.
   pub boot : Boot
+  -- The lives were lived, and the last one could not read on.
   pub lived : AreSpans tells c before after boot lives.Unread
+  -- The source failed.
   pub rose : Rose before.read_faults after.read_faults
 
 -- Lives were lived, and the flash of the next one was not given, of which bytes were written.
 pub record IsClosed (tells : Bool) (c : Config) (before after : Talk) : Type 0 where
+  -- Where the last life ended.
   pub between : Talk
+  -- The lives until then were lived, each ended by a `power`.
   pub lived : LivesPassed tells c before between
+  -- Nothing more was read.
   pub ahead : after.ahead ≡ between.ahead
+  -- What was written of the flash that was not given.
   pub text : List ℕ
+  -- It was written after the lines of the lives.
   pub written : Appends between.held after.held text
 
 abbrev pub other_script_line : List ℕ
@@ -101,9 +113,13 @@ IsLostBy before after status = (status ≡ 7) ⊎ ((status ≡ 4) × Rose before
 
 -- The last of these lives was cut short: those before it are whole, and a front of its lines was written.
 pub record IsCutInALife (tells : Bool) (c : Config) (before after : Talk) : Type 0 where
+  -- How the last life began.
   pub boot : Boot
+  -- Why it ended.
   pub end : LifeEnd
+  -- It was lost, by a fault of the sink or for memory.
   pub lost : IfLost end (Unit {0})
+  -- The lives were lived up to there.
   pub lived : AreSpans tells c before after boot end
 
 -- What was written in a session that was cut off: lives; or a front of the line that refuses a script that does something.
@@ -113,8 +129,11 @@ IsCutBy tells script before after =
 
 -- An end of this cause, with its status; or the session was cut off.
 pub record IsSessionEnded (Cause : SessionEnd → Type 0) (status : ℕ) : Type 0 where
+  -- How the session ended.
   pub end : SessionEnd
+  -- That has its cause.
   pub cause : Cause end
+  -- The status is the one that is due for it.
   pub status_is : status ≡ status_due end
 
 abbrev pub EndsFor : (SessionEnd → Type 0) → Type 0 → (before after : Talk) → ℕ → Type 0
