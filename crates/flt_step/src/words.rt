@@ -56,9 +56,7 @@ fn put_request(tester: u8, bytes: &ArrayVec<u8, REQUEST>, out: &mut Vec<u8>)
     requires { vec_len out.old + 52 ≤ vec_capacity out.old }
     ensures { Puts out.old out.new (step_text (Step.Request tester bytes.now)) 52 }
 {
-    put_text(b"t ", out);
-    out.push_reserved(b'A' + tester.min(3));
-    put_text(b" ", out);
+    put_text(&[b't', b' ', b'A' + tester.min(3), b' '], out);
     put_bytes(bytes, out);
 }
 
