@@ -17,11 +17,18 @@ from typing import List
 
 COUNTING = "while True: pass"
 
+# No run may take longer, in seconds.
+LIMIT = 300
+
 
 def took(program: str) -> float:
     """Returns how many milliseconds a run of the program takes."""
     start = time.monotonic()
-    ended = subprocess.run([program, "load", "60000", "lanes"], stdout=subprocess.DEVNULL, stdin=subprocess.DEVNULL, check=False)
+    words = [program, "load", "60000", "lanes"]
+    try:
+        ended = subprocess.run(words, stdout=subprocess.DEVNULL, stdin=subprocess.DEVNULL, check=False, timeout=LIMIT)
+    except subprocess.TimeoutExpired:
+        sys.exit(f"{program}: more than {LIMIT} seconds")
     if ended.returncode != 0:
         sys.exit(f"{program}: status {ended.returncode}")
     return (time.monotonic() - start) * 1000
