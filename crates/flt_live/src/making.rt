@@ -12,7 +12,7 @@ use flt_config::ValidConfig;
 use flt_dcm::{ReplyKind, Unit};
 use flt_flash::Blocks;
 use flt_life_model::{Action, Answer, StepAnswer};
-use flt_lives::{Buffers, drain, get, make_step};
+use flt_lives::{Buffers, NoJournal, drain, get, make_step};
 use flt_queue::JobQueue;
 use flt_store::Store;
 
@@ -35,8 +35,8 @@ pub(crate) fn make<D: Blocks + Drop>(
         (unit_seen unit.old) (unit_seen unit.new) queue.old queue.new store.old store.new }
 {
     match &action {
-        Action::Call(_) => make_step(unit, store, config, buffers, &action, 0),
-        Action::Save => make_step(unit, store, config, buffers, &action, 0),
+        Action::Call(_) => make_step(unit, store, config, buffers, action, 0, &mut NoJournal),
+        Action::Save => make_step(unit, store, config, buffers, action, 0, &mut NoJournal),
         Action::Queue(op) => {
             let reply = queue.apply(op);
             StepAnswer::Queue(Answer { place: 0, reply })

@@ -1,6 +1,7 @@
 pub mod Alone
 pub mod Carried
 pub mod Dark
+pub mod Written
 pub mod Living
 pub mod Steps
 pub mod Linked

@@ -56,13 +56,6 @@ pub record HasCallsLeft {A : Type 0} (count : ℕ) (journal : Vec (Entry Op) A) 
   -- The place of each fits four bytes.
   pub few : vec_len journal < 2 ^ 32
 
--- At most this many calls were written after those of a journal, in the room that was there.
-pub record AddsCalls {A : Type 0} (count : ℕ) (before after : Vec (Entry Op) A) : Type 0 where
-  -- No more calls were written than the limit.
-  pub calls : vec_len after ≤ vec_len before + count
-  -- The journal has the room that it had.
-  pub room : vec_capacity after ≡ vec_capacity before
-
 -- Steps of one life gave these arms to the bench of a driver, and no more than this many.
 pub record GivesArms (arms : List Arm) (most : ℕ) (before after : BlocksState) : Type 0 where
   -- The driver went on without a power-up.

@@ -10,6 +10,7 @@
 
 mod account;
 mod buffers;
+mod calls;
 mod dark;
 mod device;
 mod draining;
@@ -21,6 +22,7 @@ mod reading;
 mod step;
 
 pub use buffers::Buffers;
+pub use calls::{CallJournal, NoJournal};
 pub use device::{Run, run_alone, run_on_device};
 pub use draining::drain;
 pub use driver::Driver;

@@ -13,7 +13,7 @@ ghost use Rattle.flt_lives.specs.Steps.{AreOnTheirWay, GivesArms, HasTakenSteps,
 use crate::account::Account;
 use crate::buffers::Buffers;
 use crate::engine::{Engine, Lived};
-use crate::step::{make_step, write_calls};
+use crate::step::make_step;
 use flt_config::ValidConfig;
 use flt_dcm::Unit;
 use flt_flash::Blocks;
@@ -42,8 +42,15 @@ fn take_step<D: Blocks + Drop>(
 {
     let action = action_of(step);
     let place = account.journal.len() as u32;
-    let answer = make_step(unit, store, config, buffers, &action, place);
-    write_calls(action, &answer, &mut account.journal);
+    let answer = make_step(
+        unit,
+        store,
+        config,
+        buffers,
+        action,
+        place,
+        &mut account.journal,
+    );
     account.replies.keep(answer, buffers.response.as_slice());
 }
 

@@ -1,6 +1,5 @@
 //! The steps of a life.
-ghost use Rattle.std.specs.Prelude.{◌≡◌, ◌+◌, ◌≤◌, ◌<◌, ◌∷◌, ℕ, List, length, reverse, vec_len};
-ghost use Rattle.std.specs.Vec.{vec_capacity};
+ghost use Rattle.std.specs.Prelude.{◌≡◌, ◌≤◌, ◌∷◌, [], ℕ, List, length};
 ghost use Rattle.flt_config.specs.Durable.{Fits};
 ghost use Rattle.flt_model.specs.Start.{Start, History};
 ghost use Rattle.flt_model.specs.Answer.{answer};
@@ -15,16 +14,16 @@ ghost use Rattle.flt_store.specs.Store.{driver_of};
 ghost use Rattle.flt_life_model.specs.declared.action.Action.TheVariants as actions;
 ghost use Rattle.flt_life_model.specs.Actions.{call_count, response_size};
 ghost use Rattle.flt_life_model.specs.Answers.{told_with, response_length, reply_size};
-ghost use Rattle.flt_lives.specs.Carried.{IsAtPlace, with_calls};
-ghost use Rattle.flt_life_model.specs.Journal.{entry};
+ghost use Rattle.flt_lives.specs.Carried.{IsAtPlace, with_calls, with_save};
 ghost use Rattle.flt_lives.specs.Living.{IsUnderWay};
-ghost use Rattle.flt_lives.specs.Steps.{AddsCalls, AreOnTheirWay, IsPlainAction, MakesPlainStep, StepLeaves};
+ghost use Rattle.flt_lives.specs.Steps.{AreOnTheirWay, IsPlainAction, MakesPlainStep, StepLeaves};
 
 use crate::buffers::Buffers;
+use crate::calls::CallJournal;
 use flt_config::{Persist, ValidConfig};
 use flt_dcm::{ReplyKind, Unit};
 use flt_flash::Blocks;
-use flt_life_model::{Action, Answer, Entry, StepAnswer};
+use flt_life_model::{Action, Answer, StepAnswer};
 use flt_model::{Op, RESPONSE};
 use flt_store::Store;
 
@@ -53,95 +52,69 @@ fn take_snapshot(unit: &Unit, state: &mut Persist)
 }
 
 /// Saves the durable state, and answers it: the machine takes a snapshot, and then the number if the save was answered with one.
-fn save<D: Blocks + Drop>(
+fn save<D: Blocks + Drop, J: CallJournal>(
     unit: &mut Unit,
     store: &mut Store<D>,
     config: &ValidConfig,
     buffers: &mut Buffers,
+    journal: &mut J,
 ) -> StepAnswer<ReplyKind>
+    requires room { 2 ≤ J.left journal.old }
     requires ready { AreOnTheirWay config.now unit.old store.old }
     ensures ready { AreOnTheirWay config.now unit.new store.new }
     ensures made { (response : List ℕ) → MakesPlainStep config.now actions.Save (unit_seen unit.old) (unit_seen unit.new) store.old store.new (told_with response result) }
+    ensures written { (response : List ℕ) → J.takes (with_save (told_with response result) []) journal.old journal.new }
     ensures size { (response : List ℕ) → response_length result response ≡ 0 }
     ensures placed { (place : ℕ) (response : List ℕ) → IsAtPlace place (told_with response result) }
     ensures applications { SameApplications (driver_of store.old).value (driver_of store.new).value }
     ensures keeps_driver { Follows (driver_of store.old) (driver_of store.new) }
 {
     take_snapshot(unit, &mut buffers.state);
+    journal.write(Op::Snapshot);
     match store.save(config, &buffers.state) {
         Ok(generation) => {
-            call(unit, &Op::Saved { generation }, buffers);
+            let op = Op::Saved { generation };
+            call(unit, &op, buffers);
+            journal.write(op);
             StepAnswer::Saved(generation)
         }
         Err(fault) => StepAnswer::SaveFailed(fault),
     }
 }
 
-/// Makes a step that leaves the queue and the application blocks alone, and answers it; an answer of the machine has this place. If the
-/// answer is a response, its bytes are among the buffers.
+/// Makes a step that leaves the queue and the application blocks alone, writes its calls to a journal, and answers it; an answer of the
+/// machine has this place. If the answer is a response, its bytes are among the buffers.
 #[inline(always)]
-pub fn make_step<D: Blocks + Drop>(
+pub fn make_step<D: Blocks + Drop, J: CallJournal>(
     unit: &mut Unit,
     store: &mut Store<D>,
     config: &ValidConfig,
     buffers: &mut Buffers,
-    action: &Action,
+    action: Action,
     place: u32,
+    journal: &mut J,
 ) -> StepAnswer<ReplyKind>
+    requires room { call_count action ≤ J.left journal.old }
     requires ready { AreOnTheirWay config.now unit.old store.old }
-    requires step { IsPlainAction config.now action.now (driver_of store.old).device }
+    requires step { IsPlainAction config.now action (driver_of store.old).device }
     ensures ready { AreOnTheirWay config.now unit.new store.new }
-    ensures made { MakesPlainStep config.now action.now (unit_seen unit.old) (unit_seen unit.new) store.old store.new (told_with buffers.new.response.items result) }
+    ensures made { MakesPlainStep config.now action (unit_seen unit.old) (unit_seen unit.new) store.old store.new (told_with buffers.new.response.items result) }
+    ensures written { J.takes (with_calls action (told_with buffers.new.response.items result) []) journal.old journal.new }
     ensures placed { IsAtPlace place (told_with buffers.new.response.items result) }
-    ensures size { length buffers.new.response.items ≤ RESPONSE → response_length result buffers.new.response.items ≤ response_size action.now }
-    ensures leaves { StepLeaves action.now (driver_of store.old) (driver_of store.new) }
+    ensures size { length buffers.new.response.items ≤ RESPONSE → response_length result buffers.new.response.items ≤ response_size action }
+    ensures leaves { StepLeaves action (driver_of store.old) (driver_of store.new) }
 {
     match action {
         Action::Call(op) => {
-            let reply = call(unit, op, buffers);
+            let reply = call(unit, &op, buffers);
+            journal.write(op);
             StepAnswer::Dem(Answer { place, reply })
         }
-        Action::Save => save(unit, store, config, buffers),
+        Action::Save => save(unit, store, config, buffers, journal),
         Action::Arm(arm) => {
-            store.arm(*arm);
+            store.arm(arm);
             StepAnswer::Armed
         }
         Action::Queue(_) | Action::Drain | Action::Get(_) => unreachable!(),
-    }
-}
-
-/// Writes a call of the only lane after those of a journal.
-fn write(op: Op, journal: &mut Vec<Entry<Op>>)
-    requires { vec_len journal.old < vec_capacity journal.old }
-    ensures written { reverse journal.new.items ≡ entry 0 op ∷ reverse journal.old.items }
-    ensures more { vec_len journal.new ≡ vec_len journal.old + 1 }
-    ensures room { vec_capacity journal.new ≡ vec_capacity journal.old }
-{
-    journal.push_reserved(Entry { lane: 0, op });
-}
-
-/// Writes the calls of a step that was answered so after those of a journal.
-#[inline(always)]
-pub(crate) fn write_calls(
-    action: Action,
-    answer: &StepAnswer<ReplyKind>,
-    journal: &mut Vec<Entry<Op>>,
-)
-    requires { vec_len journal.old + call_count action ≤ vec_capacity journal.old }
-    ensures written { (response : List ℕ) → reverse journal.new.items ≡ with_calls action (told_with response answer.now) (reverse journal.old.items) }
-    ensures journal { AddsCalls (call_count action) journal.old journal.new }
-{
-    match action {
-        Action::Call(op) => write(op, journal),
-        Action::Save => {
-            write(Op::Snapshot, journal);
-            if let StepAnswer::Saved(generation) = answer {
-                let op = Op::Saved {
-                    generation: *generation,
-                };
-                write(op, journal);
-            }
-        }
-        Action::Queue(_) | Action::Drain | Action::Get(_) | Action::Arm(_) => {}
     }
 }

@@ -119,7 +119,7 @@ pub returns-in-Arm-clause-leaves : goal.returns-in-Arm-clause-leaves
 returns-in-Arm-clause-leaves g c = record {
   applications = λ block below. ap (λ (d : BlocksState). d.value (application_number block)) c.arm.ensures.arms.rest;
   gives = search rules;
-  calls = λ none. (let one : arm_count c.args.action.now ≡ 1 = ap arm_count c.in-Arm.is in absurd (omega (arith, none, one)));
+  calls = λ none. (let one : arm_count c.args.action ≡ 1 = ap arm_count c.in-Arm.is in absurd (omega (arith, none, one)));
 }
 
 pub returns-in-Save-clause-placed : goal.returns-in-Save-clause-placed
