@@ -13,7 +13,6 @@ use Rattle.flt_store_model.specs.Holding.{Generation, SameApplications}
 use Rattle.flt_queue.specs.Queue.{History}
 use Rattle.flt_store.specs.declared.store.Store.{Store}
 use Rattle.flt_store.specs.Store.{IsRunning, driver_of}
-use Rattle.flt_turn.specs.declared.vault.Entry.{Entry}
 use Rattle.flt_turn.specs.Journal.{ops_of}
 use Rattle.flt_turn.specs.Seats.{Seated}
 use Rattle.flt_step.specs.declared.step.Step.TheVariants as steps
@@ -27,16 +26,12 @@ use Rattle.flt_life_model.proofs.Causing.{caused_arm, caused_first}
 use Rattle.flt_life_model.proofs.HeldBlocks.{held_deed}
 use Rattle.flt_fork.specs.Seats.{AreJoined}
 use Rattle.flt_lane.specs.Draining.{DrainsOn}
-use Rattle.flt_fork.specs.Known.{IsKnownTo}
-use Rattle.flt_lane.specs.Living.{Carries, HoldsBy, HoldsOn, IsLivingOn, drains_by, drains_of, saves_by}
+use Rattle.flt_lane.specs.KeptLaws.{KnowsToo, holds_known, living_known}
+use Rattle.flt_lane.specs.Living.{Carries, HoldsOn, IsLivingOn, drains_by, drains_of, saves_by}
 use Rattle.flt_lane.specs.Runs.{QueueSeat}
 use Rattle.flt_life_model.proofs.Keeping.{IsNoSave, kept_other}
 
 -- ---- seats that know as much
-
--- What the one knows, the other knows too.
-abbrev pub KnowsToo : {S O : Type 0} → Seated S O → Seated S O → Type 0
-KnowsToo {S} {O} before after = (known : List (Entry O)) → IsKnownTo before known → IsKnownTo after known
 
 -- A seat that joined others knows what each of them knew.
 pub knows_joined : {S O : Type 0} (main after seat : Seated S O) (seats : List (Seated S O)) → AreJoined main after seats → Contains (map (λ (s : Seated S O). s.seen) seats) seat.seen → seat.olds ≡ main.olds → KnowsToo seat after
@@ -50,31 +45,7 @@ knows_still {S} {O} main after seats joined known =
     ⊎_elim (λ pre. inl (subst (IsPrefix known) (sym joined.seen_is) pre))
     (λ old. inr (old.0, subst (λ l. Contains l old.0) (sym joined.olds_are) (Contains-append_left main.olds (map (λ (s : Seated S O). s.seen) seats) old.0 old.1), old.2))
 
-module _ {B : Type 0} {b : Ghosts B} where
-  living_known : (c : Config) (first : Generation) (before after : Seat) (deeds : List Deed) (store : Store B b) → KnowsToo before after → IsLivingOn c first before deeds store → IsLivingOn c first after deeds store
-  living_known c first before after deeds store knows living = record {
-    held = living.held;
-    spare = living.spare;
-    running = living.running;
-    known = living.known;
-    is_known = knows living.known living.is_known;
-    least = living.least;
-    kept = living.kept;
-  }
-
-holds_known : (first : ℕ → Content) (before after : QueueSeat) (calls jobs : ℕ) (deeds : List Deed) (values : ℕ → Content) → KnowsToo before after → HoldsBy first before calls jobs deeds values → HoldsBy first after calls jobs deeds values
-holds_known first before after calls jobs deeds values knows holds = record { known = holds.known; is_known = knows holds.known holds.is_known; least = holds.least; held = holds.held }
-
 module _ {B : Type 0} {b : Ghosts B} (c : Config) where
-  -- Steps that leave the store alone.
-  pub carries_beside : (before after : Seat) (jobs jobs_after : QueueSeat) (deeds : List Deed) (store : Store B b) → KnowsToo before after → KnowsToo jobs jobs_after → Carries c before after jobs jobs_after deeds deeds store store
-  carries_beside before after jobs jobs_after deeds store knows job_knows = record {
-    alive = λ alive. alive;
-    living = λ first start living. living_known c first before after deeds store knows living;
-    caused = λ begun caused. caused;
-    holds = λ alive first holds. holds_known first jobs jobs_after _ _ deeds _ job_knows holds;
-  }
-
   -- What is carried on between seats that know less and more.
   pub carries_between : (main before after later : Seat) (jobs jobs_before jobs_after jobs_later : QueueSeat) (earlier deeds : List Deed) (store now : Store B b) → before.start ≡ main.start → KnowsToo main before → KnowsToo after later
       → KnowsToo jobs jobs_before → KnowsToo jobs_after jobs_later → Carries c before after jobs_before jobs_after earlier deeds store now → Carries c main later jobs jobs_later earlier deeds store now
@@ -83,15 +54,6 @@ module _ {B : Type 0} {b : Ghosts B} (c : Config) where
     living = λ first begins living. living_known c first after later deeds now then_knows (carries.living first (start ∙ begins) (living_known c first main before earlier store first_knows living));
     caused = carries.caused;
     holds = λ alive first holds. holds_known first jobs_after jobs_later _ _ deeds _ job_then (carries.holds alive first (holds_known first jobs jobs_before _ _ earlier _ job_first holds));
-  }
-
-  pub carries_further : (before mid after : Seat) (jobs jobs_mid jobs_after : QueueSeat) (earlier deeds later : List Deed) (store middle now : Store B b) → mid.start ≡ before.start → Carries c before mid jobs jobs_mid earlier deeds store middle
-      → Carries c mid after jobs_mid jobs_after deeds later middle now → Carries c before after jobs jobs_after earlier later store now
-  carries_further before mid after jobs jobs_mid jobs_after earlier deeds later store middle now start one two = record {
-    alive = λ alive. two.alive (one.alive alive);
-    living = λ first begins living. two.living first (start ∙ begins) (one.living first begins living);
-    caused = λ begun caused. two.caused begun (one.caused begun caused);
-    holds = λ alive first holds. two.holds (one.alive alive) first (one.holds alive first holds);
   }
 
   -- An arm.

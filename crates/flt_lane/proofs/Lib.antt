@@ -22,3 +22,4 @@ pub mod StorePlaces
 pub mod StoreLanes
 pub mod Lives
 pub mod WholeLife
+pub mod FewSteps

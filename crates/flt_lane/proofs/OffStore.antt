@@ -21,7 +21,7 @@ use Rattle.flt_store.specs.declared.store.Store.{Store}
 use Rattle.flt_lane.specs.Living.{Carries}
 use Rattle.flt_lane.specs.Runs.{Makes, QueueSeat, Queues}
 use Rattle.flt_lane.specs.Stepped.{IsLockCall}
-use Rattle.flt_lane.proofs.Carrying.{carries_beside}
+use Rattle.flt_lane.specs.KeptLaws.{carries_beside}
 use Rattle.flt_fork.proofs.Knowing.{known_along}
 
 -- ---- it makes a call, and does nothing else

@@ -7,7 +7,7 @@ use Rattle.flt_step.specs.Part.{PartOf}
 use Rattle.flt_life_model.specs.declared.room.LaneRoom.{LaneRoom}
 use Rattle.flt_life_model.specs.Parts.{lanes_in}
 use Rattle.flt_life_model.specs.Room.{IsLaneRoom, steps_of}
-use Rattle.flt_lane.specs.declared.room.BlockRoom.{BlockRoom}
+use Rattle.flt_lane.specs.Views.{BlockRoom}
 use Rattle.flt_lane.specs.Room.{AreRoomsOf, IsBlockRoom, blocks_in, lanes_of}
 
 -- Two lists in one another's place, of which the first pieces are as long.

@@ -7,7 +7,7 @@ use Rattle.flt_step.specs.declared.step.Step.{Step}
 use Rattle.flt_queue.specs.Call as queued
 use Rattle.flt_queue.specs.Queue as queue
 use Rattle.flt_shared.specs.Call.{Seat, MayBeAsked, reply_after}
-use Rattle.flt_shared.specs.Lock.{IsSeatOf}
+use Rattle.flt_lane.specs.Views.{IsOfLock, KnownLocks, LaneWork}
 use Rattle.flt_turn.specs.Seats as turn
 use Rattle.flt_life_model.specs.Actions.{action_of}
 use Rattle.flt_life_model.specs.Answers.{Told}
@@ -16,8 +16,6 @@ use Rattle.flt_life_model.specs.Played.{StepMakes, StepQueues}
 use Rattle.flt_life_model.specs.declared.replies.LaneReplies.{LaneReplies}
 use Rattle.flt_life_model.specs.Room.{HasRoomForSteps, told_in}
 use Rattle.flt_life_model.proofs.Sizes.{sizes-cons}
-use Rattle.flt_lane.specs.declared.lane.LaneWork.{LaneWork}
-use Rattle.flt_lane.specs.declared.locks.Locks.{Locks}
 use Rattle.flt_lane.specs.Runs.{QueueSeat, Makes, Queues, calls_by, queued_by}
 use Rattle.flt_lane.specs.Stepped.{HasRoomForAnswer, MakesStep}
 use Rattle.flt_lane.specs.Work.{AreSeatsOf, IsPrepared, HasRun}
@@ -42,7 +40,7 @@ room_for replies step later room =
 
 -- ---- a lane on its way
 
-pub record IsPartway {F : _} {g : _} (locks : Locks F g) (before now : LaneWork) (index : ℕ) : Type 0 where
+pub record IsPartway (locks : KnownLocks) (before now : LaneWork) (index : ℕ) : Type 0 where
   pub told : List Told
   pub dem : DemPart before.seats.dem now.seats.dem (take index before.steps.now) told
   pub queue : QueuePart before.seats.queue now.seats.queue (take index before.steps.now) told
@@ -53,7 +51,7 @@ pub record IsPartway {F : _} {g : _} (locks : Locks F g) (before now : LaneWork)
   pub room : HasRoomForSteps now.replies (drop index before.steps.now)
   pub seats : AreSeatsOf locks now
 
-pub begins : {F : _} {g : _} (locks : Locks F g) (lane : LaneWork) → IsPrepared locks lane → IsPartway locks lane lane 0
+pub begins : (locks : KnownLocks) (lane : LaneWork) → IsPrepared locks lane → IsPartway locks lane lane 0
 begins locks lane ready = record {
   told = [];
   dem = part_first MayBeAsked reply_after StepMakes calls_by lane.seats.dem;
@@ -78,8 +76,8 @@ sum_so_far amount steps index step within is =
     ∙ ap (λ l. sum_by amount (take index steps) + sum_by amount l) (next_step steps index step within is) ∙ ap (λ n. sum_by amount (take index steps) + n) (sum_by-cons amount step (drop (index + 1) steps))
 
 -- The seats stay those of the locks.
-pub seats_stay : {F : _} {g : _} (locks : Locks F g) (now after : LaneWork) (step : Step) (told : Told) → AreSeatsOf locks now → Makes now.seats.dem step told after.seats.dem → Queues now.seats.queue step told after.seats.queue
-    → IsSeatOf locks.dem after.seats.dem → turn.IsSeatOf locks.queue.turn after.seats.queue → AreSeatsOf locks after
+pub seats_stay : (locks : KnownLocks) (now after : LaneWork) (step : Step) (told : Told) → AreSeatsOf locks now → Makes now.seats.dem step told after.seats.dem → Queues now.seats.queue step told after.seats.queue
+    → IsOfLock locks.dem after.seats.dem → turn.IsSeatOf locks.queue.turn after.seats.queue → AreSeatsOf locks after
 seats_stay locks now after step told seats makes queues dem job_seat = record {
   dem = dem;
   queue = job_seat;
@@ -87,7 +85,7 @@ seats_stay locks now after step told seats makes queues dem job_seat = record {
       ∙ ap (λ s. s.config.blocks) (sym (chain_fact MayBeAsked reply_after now.seats.dem makes.calls after.seats.dem makes.chain).start_is);
 }
 
-module _ {F : _} {g : _} (locks : Locks F g) (before now : LaneWork) (index : ℕ) (step : Step) (ready : IsPrepared locks before) (on : IsPartway locks before now index) (within : index < length before.steps.now)
+module _ (locks : KnownLocks) (before now : LaneWork) (index : ℕ) (step : Step) (ready : IsPrepared locks before) (on : IsPartway locks before now index) (within : index < length before.steps.now)
     (is : step ≡ get_or before.steps.now index step) where
   -- There are the calls for the next step.
   pub calls_left : calls_by step ≤ now.seats.dem.left
@@ -107,7 +105,7 @@ module _ {F : _} {g : _} (locks : Locks F g) (before now : LaneWork) (index : �
   room_next = room_for now.replies step (drop (index + 1) before.steps.now) (subst (HasRoomForSteps now.replies) (next_step before.steps.now index step within is) on.room)
 
   pub goes_on : (after : LaneWork) → (made : MakesStep now.seats.dem after.seats.dem now.seats.queue after.seats.queue step now.replies after.replies) → after.number ≡ now.number → after.steps.now ≡ now.steps.now
-      → IsSeatOf locks.dem after.seats.dem → turn.IsSeatOf locks.queue.turn after.seats.queue → IsPartway locks before after (index + 1)
+      → IsOfLock locks.dem after.seats.dem → turn.IsSeatOf locks.queue.turn after.seats.queue → IsPartway locks before after (index + 1)
   goes_on after made number steps seat job_seat =
       let all = before.steps.now in
       let told = made.answer in
@@ -133,7 +131,7 @@ take_past (suc n) [] short = refl
 take_past zero (x ∷ xs) short = absurd (omega arith)
 take_past (suc n) (x ∷ xs) short = ap (λ l. x ∷ l) (take_past n xs (omega arith))
 
-pub has_run : {F : _} {g : _} (locks : Locks F g) (before now : LaneWork) (index : ℕ) → IsPartway locks before now index → length before.steps.now ≤ index → HasRun before now
+pub has_run : (locks : KnownLocks) (before now : LaneWork) (index : ℕ) → IsPartway locks before now index → length before.steps.now ≤ index → HasRun before now
 has_run locks before now index on all =
     let whole = take_past index before.steps.now all in
     record {

@@ -13,9 +13,7 @@ use Rattle.flt_life_model.specs.Parts.{calls_of, queued_of}
 use Rattle.flt_life_model.specs.declared.replies.LaneReplies.{LaneReplies}
 use Rattle.flt_life_model.specs.declared.room.LaneRoom.{LaneRoom}
 use Rattle.flt_life_model.specs.Room.{HasRoomForSteps, IsEmpty, IsLaneRoom, steps_of, told_in}
-use Rattle.flt_lane.specs.declared.lane.LaneWork.{LaneWork}
-use Rattle.flt_lane.specs.declared.locks.Locks.{Locks}
-use Rattle.flt_lane.specs.declared.locks.Seats.{Seats}
+use Rattle.flt_lane.specs.Views.{KnownLocks, LaneWork, Seats}
 use Rattle.flt_lane.specs.Room.{IsLaneFor, all_calls, all_queued}
 use Rattle.flt_lane.specs.Runs.{QueueSeat}
 use Rattle.flt_lane.specs.Seating.{AreSeated, CanJoin, CanSeat, HaveJoined, IsJoined, IsSeated}
@@ -35,7 +33,7 @@ all_of_first amount room later steps is = sum_by-cons amount room.steps.now (ste
 pub first_fits : (amount : List Step → ℕ) (room : LaneRoom) (later : List LaneRoom) (left : ℕ) → sum_by amount (steps_of (room ∷ later)) ≤ left → amount room.steps.now ≤ left
 first_fits amount room later left enough = let sum = all_of_first amount room later room.steps.now refl in omega (arith, sum, enough)
 
-module _ {F : _} {g : _} (locks : Locks F g) (before : Seats) (room : LaneRoom) (later : List LaneRoom) (can : CanSeat locks before (room ∷ later)) where
+module _ (locks : KnownLocks) (before : Seats) (room : LaneRoom) (later : List LaneRoom) (can : CanSeat locks before (room ∷ later)) where
   -- The calls of the next lane, and what is known of it.
   pub calls_for : calls_of room.steps.now ≤ before.dem.left
   calls_for = first_fits calls_of room later before.dem.left can.dem.enough
@@ -90,7 +88,7 @@ module _ {F : _} {g : _} (locks : Locks F g) (before : Seats) (room : LaneRoom) 
         steps = subst (λ c. All (IsLaneFor c) (steps_of later)) (sym start) (All-tail (IsLaneFor before.dem.start.config) room.steps.now (steps_of later) can.steps);
       }
 
-module _ {F : _} {g : _} (locks : Locks F g) where
+module _ (locks : KnownLocks) where
   -- The later lanes may give theirs back after it.
   pub joins_later : (before : Seats) (work : LaneWork) (later : List LaneWork) (after : Seats) (replies : LaneReplies) → IsJoined before work after replies → CanJoin locks before (work ∷ later) → CanJoin locks after later
   joins_later before work later after replies is can = record {

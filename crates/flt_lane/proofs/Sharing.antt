@@ -20,7 +20,7 @@ use Rattle.flt_queue.proofs.boxed_queue.BoxedQueue.TheSendSync as queue_sent
 use Rattle.flt_queue.proofs.job.QueueOp.TheSendSync as queue_op_sent
 use Rattle.flt_queue.specs.contracts.lock.QueueLock as queue_lock
 use Rattle.flt_shared.specs.contracts.lock.DemLock as lock
-use Rattle.flt_lane.specs.contracts.locks.Locks as locks
+use Rattle.flt_lane.specs.contracts.locks.LocksOf as locks
 
 pub unit_sync : IsSync unit
 unit_sync = search sendable
@@ -37,8 +37,12 @@ row_sync F H sync = recorded_sync _ _ _ (row.the_type F H).to_one (struct_sync (
 fields : (F : RattleType) → (H : _) → IsSync F → IsSync (Struct (shape (lock.the_type F H)))
 fields F H sync = struct_sync (shape (lock.the_type F H)) (search (turn_sent.the_sync, guarded_sent.the_send, op_sent.the_send) depth 40, (struct_sync (shape (did.the_type (number 16) F H)) (array_sent.the_sync (option.the_row (row.the_row F H)) (number 16) unit (option_sent.the_sync _ (row_sync F H sync)) unit_sync, tt), (snapshot_sync config.the_row, tt)))
 
-both : (F : RattleType) → (H : _) → IsSync F → IsSync (Struct (shape (locks.the_type F H)))
-both F H sync = struct_sync (shape (locks.the_type F H)) (fields F H sync, (struct_sync (shape queue_lock.the_type) (search (turn_sent.the_sync, queue_sent.the_send, queue_op_sent.the_send) depth 40, tt), tt))
+pub dem_sync : (F : RattleType) → (H : _) → IsSync F → IsSync (lock.the_row F H)
+dem_sync F H sync = recorded_sync _ _ _ (lock.the_type F H).to_one (fields F H sync)
 
-pub locks_sync : (F : RattleType) → (H : _) → IsSync F → IsSync (locks.the_row F H)
-locks_sync F H sync = recorded_sync _ _ _ (locks.the_type F H).to_one (both F H sync)
+-- Locks may be shared if the one over the status machine may.
+both : (L : RattleType) → IsSync L → IsSync (Struct (shape (locks.the_type L)))
+both L sync = struct_sync (shape (locks.the_type L)) (sync, (struct_sync (shape queue_lock.the_type) (search (turn_sent.the_sync, queue_sent.the_send, queue_op_sent.the_send) depth 40, tt), tt))
+
+pub locks_sync : (L : RattleType) → IsSync L → IsSync (locks.the_row L)
+locks_sync L sync = recorded_sync _ _ _ (locks.the_type L).to_one (both L sync)

@@ -2,7 +2,7 @@
 use Rattle.std.proofs.Common.{◌≡◌, inl, inr, ⊎_elim, ℕ, ◌<◌, false, List, [], ◌∷◌, ◌++◌, All, length, map, get_or, reverse, ap, subst, sym, arith, ◌∙◌}
 use Rattle.std.specs.Prelude.{Contains}
 use Rattle.std.proofs.lemmas.Bool.{cases_eq}
-use Rattle.std.proofs.lemmas.List.{append_cancel_left, get_or-map, length-map}
+use Rattle.std.proofs.lemmas.List.{get_or-map, length-map}
 use Rattle.std.proofs.lemmas.List.Elements.{Contains-get_or}
 use Rattle.flt_flash.specs.declared.blocks.Blocks.{Ghosts}
 use Rattle.flt_config.specs.declared.config.Config.{Config}
@@ -13,29 +13,28 @@ use Rattle.flt_step.specs.declared.step.Step.{Step}
 use Rattle.flt_shared.specs.Call.{Seat, MayBeAsked, reply_after}
 use Rattle.flt_store.specs.declared.store.Store.{Store}
 use Rattle.flt_turn.specs.Seats.{Seated}
-use Rattle.flt_life_model.specs.Answers.{Told}
 use Rattle.flt_life_model.specs.Ordered.{Deed, block_deeds, lane_deeds}
 use Rattle.flt_life_model.specs.Room.{told_in}
-use Rattle.flt_lane.specs.declared.lane.LaneWork.{LaneWork}
-use Rattle.flt_lane.specs.declared.locks.Locks.{Locks}
+use Rattle.flt_lane.specs.Views.{KnownLocks, LaneWork, Seats}
 use Rattle.flt_fork.specs.Seats.{IsSplitSeat, IsSplitOff, AreJoined}
-use Rattle.flt_lane.specs.Block.{RunsLanes}
-use Rattle.flt_lane.specs.BlockRun.{HasRunLanes}
-use Rattle.flt_fork.specs.Lived.{IsMain}
+use Rattle.flt_step.specs.Part.{PartOf}
+use Rattle.flt_lane.specs.Keeping.{CarriesLanes, IsAllowedPart, Keeping, TakesStepWith}
+use Rattle.flt_lane.specs.Kept.{store_keeping}
 use Rattle.flt_lane.specs.Living.{Carries}
 use Rattle.flt_lane.specs.Room.{all_calls, all_queued}
 use Rattle.flt_lane.specs.Runs.{QueueSeat}
 use Rattle.flt_lane.specs.Stored.{AreRun, HasRunStore, HaveRun, LeavesStore, RunsStore, StoresAt, is_store_lane}
 use Rattle.flt_lane.specs.Work.{HasRun}
-use Rattle.flt_lane.proofs.Carrying.{KnowsToo, carries_beside, carries_between, knows_joined, knows_still}
+use Rattle.flt_lane.specs.KeptLaws.{KnowsToo, carries_beside}
+use Rattle.flt_lane.proofs.Carrying.{carries_between, knows_joined, knows_still}
 use Rattle.flt_fork.proofs.Chains.{chain_fact}
 use Rattle.flt_fork.proofs.Knowing.{known_same}
-use Rattle.flt_lane.proofs.LaneDeeds.{none_deeds, one_deeds}
+use Rattle.flt_lane.proofs.LaneDeeds.{newest_deed, none_deeds, one_deeds}
+use Rattle.flt_lane.specs.Stepped.{TakesStep}
+use Rattle.flt_life_model.specs.declared.replies.LaneReplies.{LaneReplies}
 use Rattle.flt_fork.proofs.Passed.{split_each}
 use Rattle.flt_life_model.specs.Parts.{calls_of, queued_of}
-use Rattle.flt_lane.specs.declared.locks.Seats.{Seats}
-use Rattle.flt_lane.specs.Seating.{AreSeated, HaveJoined}
-use Rattle.flt_lane.proofs.WorkRuns.{ran_lanes}
+use Rattle.flt_lane.specs.Seating.{AreSeated}
 use Rattle.flt_lane.proofs.Leaving.{leaves_nothing}
 
 -- ---- each lane made its steps
@@ -67,7 +66,7 @@ pub record IsWorkFrom (main : Seat) (jobs : QueueSeat) (work : LaneWork) : Type 
 split_from : {S O : Type 0} (main seat : Seated S O) (number calls : ℕ) → IsSplitSeat main number calls seat → IsFrom main seat
 split_from main seat number calls is = record { start = is.start_is; seen = is.seen_is; olds = is.olds_are }
 
-all_from : {F : _} {g : _} (locks : Locks F g) (main off : Seats) (lanes : List (List Step)) (works : List LaneWork) → AreSeated locks main off lanes works → All (IsWorkFrom main.dem main.queue) works
+all_from : (locks : KnownLocks) (main off : Seats) (lanes : List (List Step)) (works : List LaneWork) → AreSeated locks main off lanes works → All (IsWorkFrom main.dem main.queue) works
 all_from locks main off lanes works seated = λ k d within. record {
   dem = split_each (λ (w : LaneWork). w.seats.dem) (λ w. calls_of w.steps.now) main.dem (λ w. IsFrom main.dem w.seats.dem) (λ number w is. split_from main.dem w.seats.dem number _ is) _ works seated.dem k d within;
   queue = split_each (λ (w : LaneWork). w.seats.queue) (λ w. queued_of w.steps.now) main.queue (λ w. IsFrom main.queue w.seats.queue) (λ number w is. split_from main.queue w.seats.queue number _ is) _ works seated.queue k d within;
@@ -160,19 +159,38 @@ module _ {B : Type 0} {b : Ghosts B} (c : Config) (works ran : List LaneWork) (s
 
 -- ---- all of it
 
-module _ {F : _} {g : _} {B : Type 0} {b : Ghosts B} (locks : Locks F g) (c : Config) (main off after : Seats) (lanes : List (List Step)) (works ran : List LaneWork) (told more : List (List Told)) (store now : Store B b) where
-  pub has_run_lanes : IsMain main.dem → IsMain main.queue → AreSeated locks main off lanes works → AreRun c works ran store now → HaveJoined off after ran told more
-      → HasRunLanes c main.dem after.dem main.queue after.queue lanes told more store now
-  has_run_lanes is is_queue seated run joined =
-      let have = have_run c works ran store now run in
-      let runs : RunsLanes main.dem after.dem main.queue after.queue lanes told more =
-      ran_lanes locks main off after lanes works ran told more is is_queue seated have.len have.each joined in
-      let others : runs.others ≡ map (λ (w : LaneWork). told_in w.replies) ran = append_cancel_left told runs.others (map (λ (w : LaneWork). told_in w.replies) ran) (sym runs.told_are ∙ joined.told_are) in
-      let from = all_from locks main off lanes works seated in
-      record {
-        run = runs;
-        carries = λ earlier. subst (λ l. Carries c main.dem after.dem main.queue after.queue earlier (reverse (block_deeds lanes l) ++ earlier) store now) (sym others)
-            (carries_block c main.dem off.dem after.dem main.queue off.queue after.queue lanes works ran store now (length works) (all_calls lanes) (all_queued lanes) seated.dem_off seated.queue_off seated.steps_are from
-            joined.dem joined.queue earlier run);
-        leaves = leaves_block c works ran store now run;
-      }
+-- Whatever main seats they were split from and joined to.
+pub store_carries : {B : Type 0} {b : Ghosts B} (c : Config) (works ran : List LaneWork) (store now : Store B b) → AreRun c works ran store now → CarriesLanes (store_keeping {B = B} {b = b}) c works ran store now
+store_carries c works ran store now run =
+    let leaves = leaves_block c works ran store now run in
+    record {
+      goes_on = λ locks main off after lanes told told_after is is_queue seated joined. record {
+        carries = λ earlier.
+            carries_block c main.dem off.dem after.dem main.queue off.queue after.queue lanes works ran store now (length works) (all_calls lanes) (all_queued lanes) seated.dem_off seated.queue_off seated.steps_are
+            (all_from locks main off lanes works seated) joined.dem joined.queue earlier run;
+        keeps_driver = leaves.keeps_driver;
+        arms_made = leaves.arms_made;
+        armed = let armed = leaves.armed in omega (arith, armed);
+      };
+    }
+
+-- A step over a store.
+pub store_takes : {B : Type 0} {b : Ghosts B} (c : Config) (before after : Seats) (step : Step) (replies kept : LaneReplies) (store now : Store B b) → TakesStep c before.dem after.dem before.queue after.queue step replies kept store now
+    → TakesStepWith (store_keeping {B = B} {b = b}) c before after step replies kept store now
+store_takes c before after step replies kept store now one = record {
+  made = one.made;
+  goes_on = record {
+    carries = λ earlier. subst (λ (l : List Deed). Carries c before.dem after.dem before.queue after.queue earlier l store now) (sym (newest_deed step one.made.answer [] earlier)) (one.carries earlier);
+    keeps_driver = one.keeps_driver;
+    arms_made = one.arms_made;
+    armed = one.armed;
+  };
+}
+
+-- What allows each step allows each part.
+allowed_part : {K : Type 0} (k : Keeping K) → ((step : Step) → k.allows step) → (part : PartOf Step) → IsAllowedPart k part
+allowed_part k each (inl step) = each step
+allowed_part k each (inr lanes) = λ i lane within j step inside. each (get_or (get_or lanes i lane) j step)
+
+pub all_allowed : {K : Type 0} (k : Keeping K) → ((step : Step) → k.allows step) → (parts : List (PartOf Step)) → All (IsAllowedPart k) parts
+all_allowed k each parts = λ i part within. allowed_part k each (get_or parts i part)

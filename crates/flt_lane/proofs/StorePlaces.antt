@@ -4,7 +4,7 @@ use Rattle.std.proofs.lemmas.Bool.{true≢false}
 use Rattle.std.proofs.lemmas.List.Sums.{sum_by-cons}
 use Rattle.flt_step.specs.Step.{has_store_step, store_lanes}
 use Rattle.flt_step.specs.declared.step.Step.{Step}
-use Rattle.flt_lane.specs.declared.lane.LaneWork.{LaneWork}
+use Rattle.flt_lane.specs.Views.{LaneWork}
 use Rattle.flt_lane.specs.Stored.{StoresAt, is_store_lane}
 
 -- How many lanes do.

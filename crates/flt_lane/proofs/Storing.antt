@@ -17,13 +17,12 @@ use Rattle.flt_life_model.specs.Played.{StepMakes}
 use Rattle.flt_life_model.specs.Room.{told_in}
 use Rattle.flt_life_model.specs.Going.{GoesOn, WereGiven}
 use Rattle.flt_life_model.proofs.ByAction.{no_arm, no_arms}
-use Rattle.flt_lane.specs.declared.lane.LaneWork.{LaneWork}
-use Rattle.flt_lane.specs.declared.locks.Locks.{Locks}
+use Rattle.flt_lane.specs.Views.{KnownLocks, LaneWork}
 use Rattle.flt_lane.specs.Living.{Carries}
 use Rattle.flt_lane.specs.Runs.{calls_by}
 use Rattle.flt_lane.specs.Stored.{HasRunStore, LeavesStore}
 use Rattle.flt_lane.specs.Work.{HasRun}
-use Rattle.flt_lane.proofs.Carrying.{carries_beside, carries_further}
+use Rattle.flt_lane.specs.KeptLaws.{carries_beside, carries_further}
 use Rattle.flt_lane.proofs.Leaving.{leaves_nothing, leaves_further}
 use Rattle.flt_lane.proofs.LaneDeeds.{lane_deeds_more, newest_deed, told_count}
 use Rattle.flt_fork.proofs.PartWays.{part_start}
@@ -43,12 +42,12 @@ module _ {B : Type 0} {b : Ghosts B} where
 
 -- ---- the lane
 
-pub record IsStoring {F : _} {g : _} {B : Type 0} {b : Ghosts B} (c : Config) (locks : Locks F g) (before now : LaneWork) (index : ℕ) (store current : Store B b) : Type 0 where
+pub record IsStoring {B : Type 0} {b : Ghosts B} (c : Config) (locks : KnownLocks) (before now : LaneWork) (index : ℕ) (store current : Store B b) : Type 0 where
   pub part : IsPartway locks before now index
   pub carries : (earlier : List Deed) → Carries c before.seats.dem now.seats.dem before.seats.queue now.seats.queue earlier (reverse (lane_deeds (take index before.steps.now) part.told) ++ earlier) store current
   pub leaves : LeavesStore store current
 
-module _ {F : _} {g : _} {B : Type 0} {b : Ghosts B} (c : Config) (locks : Locks F g) where
+module _ {B : Type 0} {b : Ghosts B} (c : Config) (locks : KnownLocks) where
   pub storing_begins : (lane : LaneWork) (store : Store B b) → IsPartway locks lane lane 0 → IsStoring c locks lane lane 0 store store
   storing_begins lane store part =
       let none : part.told ≡ [] = append_cancel_left (told_in lane.replies) part.told [] (sym part.answers ∙ sym (append-nil (told_in lane.replies))) in

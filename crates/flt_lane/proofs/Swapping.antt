@@ -5,7 +5,7 @@ use Rattle.std.proofs.lemmas.Bool.{cases_eq}
 use Rattle.flt_flash.specs.declared.blocks.Blocks.{Ghosts}
 use Rattle.flt_config.specs.declared.config.Config.{Config}
 use Rattle.flt_store.specs.declared.store.Store.{Store}
-use Rattle.flt_lane.specs.declared.lane.LaneWork.{LaneWork}
+use Rattle.flt_lane.specs.Views.{LaneWork}
 use Rattle.flt_lane.specs.Stored.{AreRun, HasRunStore, RunsStore, StoresAt, is_store_lane}
 use Rattle.flt_lane.specs.Work.{HasRun}
 

@@ -1,3 +1,4 @@
+pub mod Views
 pub mod Runs
 pub mod Stepped
 pub mod Room
@@ -7,5 +8,8 @@ pub mod Block
 pub mod Living
 pub mod Stored
 pub mod Draining
+pub mod Keeping
+pub mod Kept
+pub mod KeptLaws
 pub mod BlockRun
 pub mod Parts

@@ -1,25 +1,20 @@
 -- What the parts of a life need, and what they leave.
-use Rattle.std.specs.Prelude.{◌≡◌, ◌+◌, ◌<◌, ◌≤◌, ◌^◌, List, [], ◌∷◌, All, length, map, reverse, sum_by, vec_len}
+use Rattle.std.specs.Prelude.{◌≡◌, ◌+◌, ◌<◌, ◌≤◌, ◌^◌, List, ◌∷◌, All, length, map, sum_by, vec_len}
 use Rattle.std.specs.Vec.{vec_capacity}
-use Rattle.flt_flash.specs.declared.blocks.Blocks.{Ghosts}
 use Rattle.flt_config.specs.declared.config.Config.{Config}
 use Rattle.flt_step.specs.declared.step.Step.{Step}
-use Rattle.flt_step.specs.Part.{PartOf}
-use Rattle.flt_store.specs.declared.store.Store.{Store}
-use Rattle.flt_store.specs.Store.{IsAlive, driver_of}
+use Rattle.flt_step.specs.declared.step.Part.{Part}
+use Rattle.flt_step.specs.Part.{PartOf, parts_of}
 use Rattle.flt_fork.specs.Lived.{IsMain}
 use Rattle.flt_life_model.specs.Actions.{all_arms}
-use Rattle.flt_life_model.specs.Going.{GoesOn, WereGiven}
 use Rattle.flt_life_model.specs.Ordered.{deeds_in}
-use Rattle.flt_life_model.specs.Parts.{arms_in, calls_in, own_actions, own_steps, queued_in, width, widths}
+use Rattle.flt_life_model.specs.Parts.{IsPossiblePart, arms_in, calls_in, own_actions, own_steps, queued_in, steps_in, width, widths}
 use Rattle.flt_life_model.specs.Room.{HasRoomForSteps, told_in}
 use Rattle.flt_lane.specs.declared.living.LifeAnswers.{LifeAnswers}
-use Rattle.flt_lane.specs.declared.locks.Locks.{Locks}
-use Rattle.flt_lane.specs.declared.locks.Seats.{Seats}
-use Rattle.flt_lane.specs.declared.room.BlockRoom.{BlockRoom}
+use Rattle.flt_lane.specs.Views.{BlockRoom, KnownLocks, Seats}
 use Rattle.flt_lane.specs.Block.{HaveRunParts}
 use Rattle.flt_lane.specs.BlockRun.{GainsPart}
-use Rattle.flt_lane.specs.Living.{Carries}
+use Rattle.flt_lane.specs.Keeping.{IsAllowedPart, Keeping}
 use Rattle.flt_lane.specs.Room.{AreRoomsOf, IsPartFor}
 use Rattle.flt_lane.specs.Work.{AreReady}
 
@@ -43,21 +38,20 @@ pub record HasRoomForParts (answers : LifeAnswers) (parts : List (PartOf Step)) 
   -- There is a place for the answers of each other lane.
   pub told : vec_len answers.told + widths parts ≤ vec_capacity answers.told
 
-module _ {B : Type 0} {b : Ghosts B} where
-  -- These parts can be carried out: the main seats are ready for their steps, the store runs, the bench has places for their arms, and there is
-  -- room for their blocks and for their answers.
-  pub record CanRunParts {F : _} {g : _} (locks : Locks F g) (c : Config) (seats : Seats) (store : Store B b) (rooms : List BlockRoom) (answers : LifeAnswers)
-      (parts : List (PartOf Step)) : Type 0 where
+module _ {K : Type 0} (k : Keeping K) where
+  -- These parts can be carried out: the main seats are ready for their steps, so is what is beside the locks, which allows them and has places
+  -- for their arms, and there is room for their blocks and for their answers.
+  pub record CanRunParts (locks : KnownLocks) (c : Config) (seats : Seats) (x : K) (rooms : List BlockRoom) (answers : LifeAnswers) (parts : List (PartOf Step)) : Type 0 where
     -- The main seats can make any step.
     pub ready : AreReady locks c seats.dem seats.queue
     -- They are the main seats, and no other seat is out.
     pub main : IsMain seats.dem × IsMain seats.queue
-    -- The store runs under the configuration.
-    pub alive : IsAlive c store
-    -- Each part is possible under it.
+    -- What is beside the locks is ready, and has a place for each arm.
+    pub able : k.is_ready c (sum_by arms_in parts) x
+    -- Each part is possible under the configuration.
     pub steps : All (IsPartFor c) parts
-    -- The bench has a place for each arm.
-    pub arms : (driver_of store).device.bench.armed + sum_by arms_in parts ≤ 64
+    -- Each can be made with what is beside the locks.
+    pub allowed : All (IsAllowedPart k) parts
     -- The main seats have the calls of the parts left.
     pub calls : HaveCallsFor seats parts
     -- Each block has its room.
@@ -65,31 +59,41 @@ module _ {B : Type 0} {b : Ghosts B} where
     -- There is room for the answers.
     pub room : HasRoomForParts answers parts
 
+  -- A life can have these parts, whose steps are as few as those of a script, on main seats that no other seat was split from.
+  pub record CanLive (locks : KnownLocks) (c : Config) (seats : Seats) (x : K) (parts : List Part) : Type 0 where
+    -- The main seats can make any step.
+    pub ready : AreReady locks c seats.dem seats.queue
+    -- They are the main seats, and no other seat is out.
+    pub main : IsMain seats.dem × IsMain seats.queue
+    -- What is beside the locks is ready, and has a place for each arm.
+    pub able : k.is_ready c (sum_by arms_in (parts_of parts)) x
+    -- Each part is possible under the configuration.
+    pub possible : All (IsPossiblePart c) (parts_of parts)
+    -- They have no more steps than a script.
+    pub few : sum_by steps_in (parts_of parts) ≤ 65536
+    -- Each can be made with what is beside the locks.
+    pub allowed : All (IsAllowedPart k) (parts_of parts)
+    -- The main seats have their calls left.
+    pub calls : HaveCallsFor seats (parts_of parts)
+
   -- A part was carried out, and its answers were put after those that were there.
-  pub record RunsPart (c : Config) (seats after : Seats) (part : PartOf Step) (answers told : LifeAnswers) (store now : Store B b) : Type 0 where
-    -- Its calls, its answers and what it leaves of the store are those of the part.
-    pub gains : GainsPart c seats.dem after.dem seats.queue after.queue part (told_in answers.own) (told_in told.own) (map told_in answers.told.items)
-        (map told_in told.told.items) store now
+  pub record RunsPart (c : Config) (seats after : Seats) (part : PartOf Step) (answers told : LifeAnswers) (x y : K) : Type 0 where
+    -- Its calls, its answers and its deeds are those of the part.
+    pub gains : GainsPart k c seats after part (told_in answers.own) (told_in told.own) (map told_in answers.told.items) (map told_in told.told.items) x y
     -- Each lane of a block has a list of answers more.
     pub told_len : vec_len told.told ≡ vec_len answers.told + width part
 
   -- Whatever parts come after this one: where all could be carried out, what it left can carry out those.
-  abbrev pub CanRunBehind : {F : _} {g : _} → Locks F g → Config → (part : PartOf Step) → (seats after : Seats) → (store now : Store B b)
-      → (rooms later : List BlockRoom) → (answers told : LifeAnswers) → Type 0
-  CanRunBehind locks c part seats after store now rooms later answers told = (rest : List (PartOf Step))
-      → CanRunParts locks c seats store rooms answers (part ∷ rest) → CanRunParts locks c after now later told rest
+  abbrev pub CanRunBehind : KnownLocks → Config → (part : PartOf Step) → (seats after : Seats) → (x y : K) → (rooms later : List BlockRoom)
+      → (answers told : LifeAnswers) → Type 0
+  CanRunBehind locks c part seats after x y rooms later answers told = (rest : List (PartOf Step))
+      → CanRunParts locks c seats x rooms answers (part ∷ rest) → CanRunParts locks c after y later told rest
 
   -- These parts were carried out, and these are the answers: so their calls, their deeds, and their arms.
-  pub record HaveLivedParts (c : Config) (seats after : Seats) (store now : Store B b) (answers : LifeAnswers) (parts : List (PartOf Step)) : Type 0 where
+  pub record HaveLivedParts (c : Config) (seats after : Seats) (x y : K) (answers : LifeAnswers) (parts : List (PartOf Step)) : Type 0 where
     -- The calls of the parts were made, and these are their answers.
     pub ran : HaveRunParts seats.dem after.dem seats.queue after.queue parts (told_in answers.own) (map told_in answers.told.items)
     -- Each lane of a block has a list of answers.
     pub told_len : vec_len answers.told ≡ widths parts
-    -- The store was carried on by what the parts did to it.
-    pub carries : Carries c seats.dem after.dem seats.queue after.queue [] (reverse (deeds_in parts (told_in answers.own) (map told_in answers.told.items))) store now
-    -- The driver was called within one life.
-    pub keeps_driver : GoesOn (driver_of store) (driver_of now)
-    -- The bench has the arms of the parts, after those that it had.
-    pub arms_made : WereGiven (all_arms (own_actions parts)) (driver_of store).device.bench.arms (driver_of now).device.bench.arms
-    -- No arm was made beside them.
-    pub armed : (driver_of now).device.bench.armed ≤ (driver_of store).device.bench.armed + sum_by arms_in parts
+    -- Their deeds were done, and their arms were made.
+    pub goes_on : k.goes_on c seats after (deeds_in parts (told_in answers.own) (map told_in answers.told.items)) (all_arms (own_actions parts)) (sum_by arms_in parts) x y

@@ -9,7 +9,7 @@ use Rattle.flt_step.specs.Step.{store_lanes}
 use Rattle.flt_life_model.specs.Actions.{IsPossible, action_of}
 use Rattle.flt_life_model.specs.Parts.{IsPossibleInLane, calls_of, queued_of}
 use Rattle.flt_life_model.specs.Room.{IsLaneRoom, steps_of}
-use Rattle.flt_lane.specs.declared.room.BlockRoom.{BlockRoom}
+use Rattle.flt_lane.specs.Views.{BlockRoom}
 
 -- The lanes are ready, with room for the seats of each.
 pub record IsBlockRoom (block : BlockRoom) : Type 0 where

@@ -9,13 +9,11 @@ use Rattle.flt_life_model.specs.declared.replies.LaneReplies.{LaneReplies}
 use Rattle.flt_life_model.specs.declared.room.LaneRoom.{LaneRoom}
 use Rattle.flt_life_model.specs.Parts.{calls_of, queued_of}
 use Rattle.flt_life_model.specs.Room.{IsLaneRoom, steps_of, told_in}
-use Rattle.flt_lane.specs.declared.lane.LaneWork.{LaneWork}
-use Rattle.flt_lane.specs.declared.locks.Locks.{Locks}
-use Rattle.flt_lane.specs.declared.locks.Seats.{Seats}
+use Rattle.flt_lane.specs.Views.{KnownLocks, LaneWork, Seats}
 use Rattle.flt_lane.specs.Room.{IsLaneFor, all_calls, all_queued}
 use Rattle.flt_lane.specs.Work.{AreSeatsOf, IsPrepared}
 
-module _ {F : _} {g : _} (locks : Locks F g) where
+module _ (locks : KnownLocks) where
   -- The main seats have the calls of the steps of these lanes, which are ready for them, and numbers.
   pub record CanSeat (main : Seats) (rooms : List LaneRoom) : Type 0 where
     -- The main seat of the status machine has the calls and numbers for these lanes.
@@ -23,7 +21,7 @@ module _ {F : _} {g : _} (locks : Locks F g) where
     -- So has that of the queue.
     pub queue : CanSplit locks.queue.turn main.queue (length rooms) (all_queued (steps_of rooms))
     -- The status machine has the configuration of the lock.
-    pub config : main.dem.start.config ≡ locks.dem.config.value
+    pub config : main.dem.start.config ≡ locks.dem.config
     -- The queue has as many blocks as the configuration.
     pub blocks : main.queue.start ≡ main.dem.start.config.blocks
     -- There is room for the answers of each lane.
@@ -68,7 +66,7 @@ module _ {F : _} {g : _} (locks : Locks F g) where
     -- This is the main seat of the queue.
     pub queue : IsMainOf locks.queue.turn main.queue
     -- The status machine has the configuration of the lock.
-    pub config : main.dem.start.config ≡ locks.dem.config.value
+    pub config : main.dem.start.config ≡ locks.dem.config
     -- The seats of each lane are of these locks.
     pub seats : All (AreSeatsOf locks) works
 

@@ -15,7 +15,7 @@ use Rattle.flt_life_model.specs.Going.{GoesOn, WereGiven}
 use Rattle.flt_life_model.specs.Ordered.{Deed, with_deed}
 use Rattle.flt_life_model.specs.Room.{HasRoomForSteps, told_in}
 use Rattle.flt_shared.specs.Call.{Seat}
-use Rattle.flt_lane.specs.declared.locks.Seats.{Seats}
+use Rattle.flt_lane.specs.Views.{Seats}
 use Rattle.flt_lane.specs.Living.{Carries}
 use Rattle.flt_lane.specs.Runs.{Makes, Queues, QueueSeat}
 

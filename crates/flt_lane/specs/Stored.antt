@@ -7,7 +7,7 @@ use Rattle.flt_store.specs.declared.store.Store.{Store}
 use Rattle.flt_store.specs.Store.{IsAlive, driver_of}
 use Rattle.flt_life_model.specs.Ordered.{Deed, lane_deeds}
 use Rattle.flt_life_model.specs.Going.{GoesOn, WereGiven}
-use Rattle.flt_lane.specs.declared.lane.LaneWork.{LaneWork}
+use Rattle.flt_lane.specs.Views.{LaneWork}
 use Rattle.flt_lane.specs.Living.{Carries}
 use Rattle.flt_lane.specs.Work.{HasConfig, HasRun}
 

@@ -9,24 +9,20 @@ use Rattle.flt_life_model.specs.Room.{HasRoomForSteps, told_in}
 use Rattle.flt_turn.specs.Seats as turn
 use Rattle.flt_shared.specs.Call.{Seat}
 use Rattle.flt_queue.specs.declared.lock.QueueLock.{QueueLock}
-use Rattle.flt_shared.specs.Lock.{IsSeatOf}
-use Rattle.flt_shared.specs.declared.lock.DemLock.{DemLock}
-use Rattle.flt_lane.specs.declared.lane.LaneWork.{LaneWork}
-use Rattle.flt_lane.specs.declared.locks.Locks.{Locks}
-use Rattle.flt_lane.specs.declared.locks.Seats.{Seats}
+use Rattle.flt_lane.specs.Views.{IsOfLock, KnownLock, KnownLocks, LaneWork, Seats}
 use Rattle.flt_lane.specs.Runs.{QueueSeat, RunsQueue, RunsSteps}
 
 -- Both seats are of these locks, and the queue has as many blocks as the status machine's configuration.
-pub record AreOfLocks {F : _} {g : _} (locks : Locks F g) (seats : Seats) : Type 0 where
+pub record AreOfLocks (locks : KnownLocks) (seats : Seats) : Type 0 where
   -- The one is of the status machine's lock.
-  pub dem : IsSeatOf locks.dem seats.dem
+  pub dem : IsOfLock locks.dem seats.dem
   -- The other is of the queue's lock.
   pub queue : turn.IsSeatOf locks.queue.turn seats.queue
   -- The queue has as many blocks as the configuration.
   pub blocks : seats.queue.start ≡ seats.dem.start.config.blocks
 
 -- The seats of a lane are of these locks.
-abbrev pub AreSeatsOf : {F : _} {g : _} → Locks F g → LaneWork → Type 0
+abbrev pub AreSeatsOf : KnownLocks → LaneWork → Type 0
 AreSeatsOf locks work = AreOfLocks locks work.seats
 
 -- The status machine under a seat started from a state that fits this configuration, which is its own and is valid.
@@ -39,9 +35,9 @@ pub record HasConfig (config : Config) (seat : Seat) : Type 0 where
   pub fits : Fits config seat.start.base
 
 -- What is needed for a save: the seat is of the lock of the status machine, which has this configuration.
-pub record CanSave {F : _} {g : _} (dem : DemLock F g) (config : Config) (seat : Seat) : Type 0 where
+pub record CanSave (dem : KnownLock) (config : Config) (seat : Seat) : Type 0 where
   -- The seat is of the lock.
-  pub lock : IsSeatOf dem seat
+  pub lock : IsOfLock dem seat
   -- The machine has this configuration.
   pub has : HasConfig config seat
 
@@ -55,14 +51,14 @@ pub record CanDrain (queue : QueueLock) (config : Config) (jobs : QueueSeat) : T
   pub valid : IsValid config
 
 -- What is needed to make any step.
-pub record AreReady {F : _} {g : _} (locks : Locks F g) (config : Config) (seat : Seat) (jobs : QueueSeat) : Type 0 where
+pub record AreReady (locks : KnownLocks) (config : Config) (seat : Seat) (jobs : QueueSeat) : Type 0 where
   -- The seat of the status machine can save.
   pub dem : CanSave locks.dem config seat
   -- The seat of the queue can drain.
   pub queue : CanDrain locks.queue config jobs
 
 -- It has its seat's number, and its seats have the calls of its steps, which a lane can make; and there is room for their answers.
-pub record IsPrepared {F : _} {g : _} (locks : Locks F g) (work : LaneWork) : Type 0 where
+pub record IsPrepared (locks : KnownLocks) (work : LaneWork) : Type 0 where
   -- Its seats are of these locks.
   pub seats : AreSeatsOf locks work
   -- Its number is that of its seat.

@@ -5,7 +5,7 @@ ghost use Rattle.flt_step.specs.Step.{store_lanes};
 ghost use Rattle.flt_store.specs.Store.{IsAlive, driver_of};
 ghost use Rattle.flt_lane.specs.Stored.{AreRun};
 ghost use Rattle.flt_lane.specs.Work.{AreSeatsOf, HasConfig, IsPrepared};
-ghost use Rattle.flt_lane.specs.declared.lane.LaneWork.{LaneWork};
+ghost use Rattle.flt_lane.specs.Views.{LaneWork, known_locks};
 
 use crate::lane::{LaneWork, run_block};
 use crate::locks::Locks;
@@ -38,13 +38,13 @@ pub trait SharedGate: Gate {
         lanes: &mut [LaneWork<'_>],
     )
         requires sync { IsSync R.row }
-        requires ready { All (IsPrepared locks.now) lanes.old }
+        requires ready { All (IsPrepared (known_locks locks.now)) lanes.old }
         requires one_stores { store_lanes (map (λ (lane : LaneWork). lane.steps.now) lanes.old) ≤ 1 }
         requires config { All (λ lane. HasConfig config.now lane.seats.dem) lanes.old }
         requires alive { IsAlive config.now store.old }
         requires arms { (driver_of store.old).device.bench.armed ≤ 64 }
         ensures ran { AreRun config.now lanes.old lanes.new store.old store.new }
-        ensures seats { All (AreSeatsOf locks.now) lanes.new };
+        ensures seats { All (AreSeatsOf (known_locks locks.now)) lanes.new };
 }
 
 /// Holds no lane.

@@ -6,21 +6,23 @@ ghost use Rattle.flt_step.specs.Part.{parts_of};
 ghost use Rattle.flt_step.specs.declared.step.Step.{Step};
 ghost use Rattle.flt_lane.specs.Room.{AreRoomsOf, IsBlockRoom};
 
-use crate::lane::LaneWork;
+use crate::lane::LaneOf;
 use flt_life_model::LaneRoom;
+use flt_shared::{DemStart, Op};
 use flt_step::{Part, Step};
+use flt_turn::{Machine, Seat};
 use std::alloc::{AllocError, Global};
 use std::vec::IntoIter;
 
 /// The lanes of a block, and room for as many seats.
 #[derive(Drop)]
-pub struct BlockRoom<'a> {
+pub struct RoomOf<'a, S> {
     pub lanes: Vec<LaneRoom<'a>>,
-    pub works: Vec<LaneWork<'a>>,
+    pub works: Vec<LaneOf<'a, S>>,
 }
 
 /// Takes the next lanes, this many.
-pub fn next_lanes<'a>(
+fn next_lanes<'a>(
     alloc: Global,
     count: usize,
     lanes: &mut IntoIter<LaneRoom<'a>>,
@@ -40,11 +42,11 @@ pub fn next_lanes<'a>(
 }
 
 /// A block with its lanes, which are the next ones, and with room for their seats.
-fn block_room<'a>(
+fn block_room<'a, M: Machine<Start = DemStart, Op = Op>>(
     alloc: Global,
     block: &[Vec<Step>],
     lanes: &mut IntoIter<LaneRoom<'a>>,
-) -> Result<BlockRoom<'a>, AllocError>
+) -> Result<RoomOf<'a, Seat<M>>, AllocError>
     requires lanes { (later : List (List Step)) × (steps_of lanes.old.rest.items ≡ map (λ lane. lane.items) block.now ++ later) }
     requires ready { All IsLaneRoom lanes.old.rest.items }
     ensures lanes { IfOk result (λ room. steps_of room.lanes.items ≡ map (λ lane. lane.items) block.now) }
@@ -55,15 +57,15 @@ fn block_room<'a>(
 {
     let lanes = next_lanes(alloc, block.len(), lanes)?;
     let works = Vec::with_capacity(alloc, block.len())?;
-    Ok(BlockRoom { lanes, works })
+    Ok(RoomOf { lanes, works })
 }
 
 /// The blocks of a life, each with its lanes, and with room for their seats.
-pub fn block_rooms<'a>(
+pub(crate) fn block_rooms<'a, M: Machine<Start = DemStart, Op = Op>>(
     alloc: Global,
     parts: &[Part],
     lanes: Vec<LaneRoom<'a>>,
-) -> Result<Vec<BlockRoom<'a>>, AllocError>
+) -> Result<Vec<RoomOf<'a, Seat<M>>>, AllocError>
     requires lanes { steps_of lanes.items ≡ lanes_in (parts_of parts.now) }
     requires ready { All IsLaneRoom lanes.items }
     ensures { IfOk result (λ rooms. AreRoomsOf (parts_of parts.now) rooms.items) }

@@ -7,16 +7,16 @@ ghost use Rattle.flt_life_model.specs.declared.action.Action.TheVariants as acti
 ghost use Rattle.flt_step.specs.declared.step.Step.{Step as StepView};
 ghost use Rattle.flt_step.specs.declared.step.Step.TheVariants as steps;
 ghost use Rattle.flt_shared.specs.Call.{Seat as DemView};
-ghost use Rattle.flt_shared.specs.Lock.{IsSeatOf};
 ghost use Rattle.flt_store.specs.Store.{IsAlive, driver_of};
 ghost use Rattle.flt_turn.specs.Seats as turn;
 ghost use Rattle.flt_lane.specs.Runs.{QueueSeat as Jobs};
 ghost use Rattle.flt_lane.specs.Stepped.{HasRoomForAnswer, HaveCallsOf, IsLockCall, MakesStep, TakesStep};
+ghost use Rattle.flt_lane.specs.Views.{IsOfLock, known_by, known_dem, known_locks};
 ghost use Rattle.flt_lane.specs.Work.{AreOfLocks, AreReady, CanSave};
 
 use crate::drain::drain;
 use crate::gate::Gate;
-use crate::locks::{Common, Locks, Seats};
+use crate::locks::{Common, LocksOf, Seats, SeatsOf, StatusLock};
 use arrayvec::ArrayVec;
 use flt_config::ValidConfig;
 use flt_flash::{Arm, Blocks};
@@ -25,27 +25,28 @@ use flt_model::RESPONSE;
 use flt_shared::{DemLock, DemSeat, no_state};
 use flt_step::Step;
 use flt_store::Store;
+use flt_turn::Seat;
 use std::sync::Wait;
 
 /// Makes a call on seats that have it left, and keeps its answer. The bytes of a response are written in place of what `response` holds.
 /// It is all that a lane without the store does.
 #[inline(always)]
-pub(crate) fn make_call<R: Wait>(
+pub fn make_call<R: Wait, L: StatusLock>(
     rt: &R,
-    locks: &Locks,
-    seats: &mut Seats,
+    locks: &LocksOf<L>,
+    seats: &mut SeatsOf<Seat<L::Machine>>,
     call: Action,
     replies: &mut LaneReplies,
     response: &mut ArrayVec<u8, RESPONSE>,
 )
-    requires seats { AreOfLocks locks.now seats.old }
+    requires seats { AreOfLocks (known_by L.known locks.now) seats.old }
     requires call { IsLockCall call }
     requires possible { IsPossible seats.old.dem.start.config call }
     requires calls { HaveCallsOf seats.old call }
     requires room { HasRoomForAnswer replies.old call }
     ensures made { (step : StepView) → action_of step ≡ call
         → MakesStep seats.old.dem seats.new.dem seats.old.queue seats.new.queue step replies.old replies.new }
-    ensures lock { IsSeatOf locks.now.dem seats.new.dem }
+    ensures lock { IsOfLock (L.known locks.now.dem) seats.new.dem }
     ensures queue { turn.IsSeatOf locks.now.queue.turn seats.new.queue }
 {
     match call {
@@ -78,12 +79,12 @@ fn save<R: Wait, B: Blocks + Drop>(
     seat: &mut DemSeat,
     replies: &mut LaneReplies,
 )
-    requires ready { CanSave dem.now config.now seat.old }
+    requires ready { CanSave (known_dem dem.now) config.now seat.old }
     requires alive { IsAlive config.now store.old }
     requires calls { 2 ≤ seat.old.left }
     requires room { HasRoomForAnswer replies.old action.Save }
     ensures takes { (jobs : Jobs) → TakesStep config.now seat.old seat.new jobs jobs steps.Save replies.old replies.new store.old store.new }
-    ensures lock { IsSeatOf dem.now seat.new }
+    ensures lock { IsOfLock (known_dem dem.now) seat.new }
 {
     let mut state = no_state();
     let Ok(_taken) = dem.snapshot_into(rt, seat, &mut state) else {
@@ -130,21 +131,21 @@ fn make_arm<B: Blocks + Drop>(store: &mut Store<B>, arm: Arm, replies: &mut Lane
 /// Makes a step of a lane that has the store, on seats that have its calls left, and keeps its answer.
 #[inline(always)]
 pub(crate) fn do_step<R: Wait, G: Gate, B: Blocks + Drop>(
-    common: &Common<'_, R, G>,
+    common: &Common<'_, R, G, DemLock>,
     store: &mut Store<B>,
     seats: &mut Seats,
     step: &Step,
     replies: &mut LaneReplies,
     response: &mut ArrayVec<u8, RESPONSE>,
 )
-    requires ready { AreReady common.now.locks.now common.now.config.now seats.old.dem seats.old.queue }
+    requires ready { AreReady (known_locks common.now.locks.now) common.now.config.now seats.old.dem seats.old.queue }
     requires alive { IsAlive common.now.config.now store.old }
     requires step { IsPossible common.now.config.now (action_of step.now) }
     requires arms { (driver_of store.old).device.bench.armed + arm_count (action_of step.now) ≤ 64 }
     requires calls { HaveCallsOf seats.old (action_of step.now) }
     requires room { HasRoomForAnswer replies.old (action_of step.now) }
     ensures takes { TakesStep common.now.config.now seats.old.dem seats.new.dem seats.old.queue seats.new.queue step.now replies.old replies.new store.old store.new }
-    ensures lock { IsSeatOf common.now.locks.now.dem seats.new.dem }
+    ensures lock { IsOfLock (known_dem common.now.locks.now.dem) seats.new.dem }
     ensures queue { turn.IsSeatOf common.now.locks.now.queue.turn seats.new.queue }
 {
     let Common {

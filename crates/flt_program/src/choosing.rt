@@ -17,7 +17,7 @@ use flt_io::{Sink, Source};
 use flt_lane::SharedGate;
 use flt_notify::{KINDS, SubTable};
 use flt_run::{Outcome, run};
-use flt_watch::{WatchOutcome, watch};
+use flt_watch::{WatchGate, WatchOutcome, watch};
 use std::alloc::Global;
 use std::marker::Sync;
 use std::sync::Wait;
@@ -61,7 +61,7 @@ pub fn program<
     K: Sink,
     B: Bench + Drop,
     E: Eeprom + Drop,
-    G: SharedGate + Sync,
+    G: SharedGate + WatchGate,
 >(
     rt: &R,
     alloc: Global,

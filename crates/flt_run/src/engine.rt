@@ -11,7 +11,7 @@ use arrayvec::ArrayVec;
 use flt_config::ValidConfig;
 use flt_did::{DID_ROWS, DidTable};
 use flt_flash::Blocks;
-use flt_lane::{Common, LifeAnswers, Locks, Seats, SharedGate, block_rooms, run_parts};
+use flt_lane::{Common, LifeAnswers, LocksOf, SeatsOf, SharedGate, live};
 use flt_life_model::{Boot, CallRoom, LifeRoom, life_of};
 use flt_lives::{Buffers, Driver, Engine, Lived, Run, run_on_device};
 use flt_queue::{QueueEnd, QueueLock};
@@ -65,9 +65,8 @@ impl<D: Blocks + Drop, R: Threads + Wait + Sync, G: SharedGate> Engine<D> for Lo
         let Ok((queue, jobs)) = QueueLock::make(alloc, blocks, calls.queue) else {
             return Err(AllocError);
         };
-        let rooms = block_rooms(alloc, parts, lanes)?;
-        let locks = Locks { dem, queue };
-        let mut seats = Seats {
+        let locks = LocksOf { dem, queue };
+        let mut seats = SeatsOf {
             dem: main,
             queue: jobs,
         };
@@ -82,10 +81,18 @@ impl<D: Blocks + Drop, R: Threads + Wait + Sync, G: SharedGate> Engine<D> for Lo
             config,
             gate,
         };
-        run_parts(&common, store, &mut seats, parts, rooms, &mut answers);
+        live(
+            alloc,
+            &common,
+            store,
+            &mut seats,
+            parts,
+            lanes,
+            &mut answers,
+        )?;
         let LifeAnswers { own, told, .. } = answers;
-        let Locks { dem, queue } = locks;
-        let Seats {
+        let LocksOf { dem, queue } = locks;
+        let SeatsOf {
             dem: main,
             queue: jobs,
         } = seats;

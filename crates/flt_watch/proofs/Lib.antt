@@ -1,7 +1,3 @@
-pub mod Running
-pub mod Seats
-pub mod WorkRuns
-pub mod PartsSoFar
 pub mod TurnedAway
 pub mod Watchable
 pub mod MadeScript

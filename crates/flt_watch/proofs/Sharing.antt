@@ -18,7 +18,8 @@ use Rattle.flt_notify.proofs.watched.Watched.TheSendSync as watched_sent
 use Rattle.flt_model.proofs.call.Op.TheSendSync as op_sent
 use Rattle.std.proofs.option.Option.TheSendSync as option_sent
 use Rattle.arrayvec.proofs.array_vec.ArrayVec.TheSendSync as array_sent
-use Rattle.flt_lane.proofs.Sharing.{row_sync, snapshot_sync, unit_sync}
+use Rattle.flt_lane.proofs.Sharing.{locks_sync, row_sync, snapshot_sync, unit_sync}
+use Rattle.flt_lane.specs.contracts.locks.LocksOf as locks
 use Rattle.flt_watch.specs.contracts.lock.WatchLock as lock
 
 sub_row_sync : (G : RattleType) → (g : _) → IsSync G → IsSync (sub_row.the_row G g)
@@ -36,3 +37,6 @@ fields F G f g dids subs = struct_sync (shape (lock.the_type F G f g))
 
 pub lock_sync : (F G : RattleType) → (f : _) → (g : _) → IsSync F → IsSync G → IsSync (lock.the_row F G f g)
 lock_sync F G f g dids subs = recorded_sync _ _ _ (lock.the_type F G f g).to_one (fields F G f g dids subs)
+
+pub both_sync : (F G : RattleType) → (f : _) → (g : _) → IsSync F → IsSync G → IsSync (locks.the_row (lock.the_row F G f g))
+both_sync F G f g dids subs = locks_sync (lock.the_row F G f g) (lock_sync F G f g dids subs)

@@ -1,6 +1,4 @@
-pub mod Lane
-pub mod Seating
-pub mod Block
+pub mod NoStore
 pub mod Asked
 pub mod Watched
 pub mod Text

@@ -1,20 +1,21 @@
 //! The watched status machine under the ticket lock.
-ghost use Rattle.std.specs.Prelude.{◌≡◌, ◌∷◌, [], IfOk, OnErr, All, length, reverse};
+ghost use Rattle.std.specs.Prelude.{◌≡◌, ◌∷◌, [], IfOk, All, length, reverse};
 ghost use mathlib.Core.List.{IsPrefix};
 ghost use Rattle.std.proofs.Props.{props};
 ghost use Rattle.flt_did.specs.Serves.{Serves};
 ghost use Rattle.flt_did.specs.Table.{dids_of};
-ghost use Rattle.flt_dcm.specs.Unit.{IsAdmitted, Stands};
+ghost use Rattle.flt_dcm.specs.Unit.{Stands};
 ghost use Rattle.flt_turn.specs.Journal.{Interleaves, ops_of};
 ghost use Rattle.flt_turn.specs.Seats.{main_seat};
 ghost use Rattle.flt_shared.specs.Boxed.{unit_in};
-ghost use Rattle.flt_shared.specs.Call.{CallsInto};
 ghost use Rattle.flt_shared.specs.Start.{start_of};
+ghost use Rattle.flt_lane.specs.Views.{IsOfLock};
 ghost use Rattle.flt_notify.specs.Subscribers.{kinds_of};
 ghost use Rattle.flt_notify.specs.Table.{HasValuesOf, IsAtZero, kinds_in};
 
 use arrayvec::ArrayVec;
 use flt_config::Config;
+use flt_lane::StatusLock;
 use flt_model::RESPONSE;
 use flt_notify::{KINDS, Lent, SubTable, Watched};
 use flt_shared::{BoxedUnit, Op, ReplyKind};
@@ -46,7 +47,7 @@ pub struct WatchLock {
 }
 
 impl WatchLock {
-    ghost use Rattle.flt_watch.specs.Lane.{IsWatchSeatOf};
+    ghost use Rattle.flt_watch.specs.NoStore.{known_watch};
 
     /// A lock over a unit that was started and took no call since, with these subscribers, each at 0, and its main seat, to which all
     /// calls are left: `room` calls in all, for which memory is taken here.
@@ -59,7 +60,7 @@ impl WatchLock {
         requires started { Stands (start_of (unit_in unit)) [] (unit_in unit) }
         requires zero { IsAtZero subs }
         ensures ok { IfOk result (λ made. made.1 ≡ main_seat made.0.turn (start_of (unit_in unit)) room) }
-        ensures lock { IfOk result (λ made. IsWatchSeatOf made.0 made.1) }
+        ensures lock { IfOk result (λ made. IsOfLock (known_watch made.0) made.1) }
         ensures kinds { IfOk result (λ made. kinds_of made.0.lent.subscribers ≡ kinds_in subs) }
     {
         let config = Snapshot::of(unit.state.config().config());
@@ -68,28 +69,10 @@ impl WatchLock {
         Ok((WatchLock { turn, lent, config }, seat))
     }
 
-    /// Makes a call when its turn comes, and calls each subscriber with the changes that it makes. The answer has the kind of the reply, and
-    /// the bytes of a response are written in place of what `response` holds.
-    #[inline(always)]
-    pub fn call_into<R: Wait>(
-        &self,
-        rt: &R,
-        seat: &mut WatchSeat,
-        op: Op,
-        response: &mut ArrayVec<u8, RESPONSE>,
-    ) -> Result<Answer<ReplyKind>, HistoryFull<Op>>
-        requires lock { IsWatchSeatOf self.now seat.old }
-        requires admitted { IsAdmitted seat.old.start.config op }
-        ensures call { CallsInto seat.old seat.new op response.new result }
-        ensures kept { OnErr result (response.new ≡ response.old) }
-    {
-        self.turn.call(rt, seat, &self.lent, op, response)
-    }
-
     /// Ends the lock, once each seat that was split from the main seat was joined. The subscribers come back with the whole journal,
     /// and each has the value that the changes of its calls give.
     pub fn close(self, main: WatchSeat) -> WatchEnd
-        requires lock { IsWatchSeatOf self main }
+        requires lock { IsOfLock (known_watch self) main }
         requires main { main.number ≡ 0 }
         requires whole { length main.ended ≡ main.children }
         ensures seen { IsPrefix main.seen result.journal.items }
@@ -106,5 +89,29 @@ impl WatchLock {
         let Vault { journal, machine } = turn.close(main);
         let (_unit, subs) = machine.into_parts(lent);
         WatchEnd { journal, subs }
+    }
+}
+
+impl StatusLock for WatchLock {
+    ghost use Rattle.flt_watch.specs.NoStore.{known_watch};
+
+    type Machine = Watched;
+
+    ghost known = { known_watch };
+
+    /// Makes a call when its turn comes, and calls each subscriber with the changes that it makes.
+    #[inline(always)]
+    fn call_into<R: Wait>(
+        &self,
+        rt: &R,
+        seat: &mut WatchSeat,
+        op: Op,
+        response: &mut ArrayVec<u8, RESPONSE>,
+    ) -> Result<Answer<ReplyKind>, HistoryFull<Op>> {
+        self.turn.call(rt, seat, &self.lent, op, response)
+    }
+
+    fn turn(&self) -> &Turn<Watched> {
+        &self.turn
     }
 }

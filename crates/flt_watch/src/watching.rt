@@ -12,12 +12,12 @@ ghost use Rattle.flt_watch.specs.Watch.{IsMadeOf, IsUnmade, WantsMemory, Watches
 ghost use Rattle.flt_filter.specs.Verdict.{reading_of, writing_of};
 
 use crate::asking::{Asked, ask};
+use crate::keeping::WatchGate;
 use crate::life::{WatchedLife, live};
 use crate::telling::{write_other, write_watched};
 use flt_config::Persist;
 use flt_did::{DID_ROWS, DidTable};
 use flt_io::{Sink, Source, Status, StreamFault};
-use flt_lane::Gate;
 use flt_life_model::{Boot, Entry, LaneReplies, Life};
 use flt_notify::{KINDS, SubTable};
 use flt_script::{Script, write_script_fault, write_unread};
@@ -97,7 +97,7 @@ fn made(status: Status, watched: WatchedLife) -> WatchOutcome
 }
 
 /// Makes the life of a script, and reports it.
-fn watch_script<R: Threads + Wait + Sync, K: Sink, G: Gate + Sync>(
+fn watch_script<R: Threads + Wait + Sync, K: Sink, G: WatchGate>(
     rt: &R,
     alloc: Global,
     script: &Script,
@@ -127,7 +127,7 @@ fn watch_script<R: Threads + Wait + Sync, K: Sink, G: Gate + Sync>(
 /// `rt`, and writes to `sink` its lines and then the value of each kind that has a subscriber. The life begins as one of a controller that
 /// never saved a state, and keeps none. Each step is made between the two calls of `gate`.
 #[inline(never)]
-pub fn watch<R: Threads + Wait + Sync, S: Source, K: Sink, G: Gate + Sync>(
+pub fn watch<R: Threads + Wait + Sync, S: Source, K: Sink, G: WatchGate>(
     rt: &R,
     alloc: Global,
     source: &mut S,

@@ -1,10 +1,12 @@
 //! Two lanes of a watch, held by a gate so that the one or the other makes its call first.
 use super::watches::{ONE, watched};
-use flt_lane::Gate;
+use flt_lane::{Gate, LaneOf, LocksOf};
+use flt_watch::{WatchGate, WatchLock, WatchSeat, run_beside};
+use std::marker::Sync;
 use std::sync::Wait;
 use std::sync::atomic::{AtomicU64, Ordering};
 use std::test::Fail;
-use std::thread::yield_now;
+use std::thread::{Threads, yield_now};
 
 /// How often a lane looks for the other.
 const TURNS: u32 = 1_000_000;
@@ -52,6 +54,17 @@ impl Gate for Order {
         if lane == self.first {
             self.made.fetch_add(1, Ordering::SeqCst);
         }
+    }
+}
+
+impl WatchGate for Order {
+    fn run_lanes<R: Threads + Wait + Sync>(
+        &self,
+        rt: &R,
+        locks: &LocksOf<WatchLock>,
+        lanes: &mut [LaneOf<'_, WatchSeat>],
+    ) {
+        run_beside(rt, locks, lanes, self);
     }
 }
 
@@ -104,6 +117,17 @@ impl Gate for Counted {
         let made = self.after.fetch_add(1, Ordering::SeqCst);
         let asked = self.before.load(Ordering::SeqCst);
         self.note(lane, made == u64::from(step) && asked > made);
+    }
+}
+
+impl WatchGate for Counted {
+    fn run_lanes<R: Threads + Wait + Sync>(
+        &self,
+        rt: &R,
+        locks: &LocksOf<WatchLock>,
+        lanes: &mut [LaneOf<'_, WatchSeat>],
+    ) {
+        run_beside(rt, locks, lanes, self);
     }
 }
 

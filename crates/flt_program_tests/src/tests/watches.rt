@@ -3,9 +3,9 @@ ghost use Rattle.flt_notify.specs.Table.{IsAtZero};
 
 use flt_did::DidTable;
 use flt_io::{MemSink, MemSource};
-use flt_lane::{Gate, OpenGate};
+use flt_lane::OpenGate;
 use flt_notify::{KINDS, SubTable, note_0, note_1, note_2};
-use flt_watch::{WatchOutcome, watch};
+use flt_watch::{WatchGate, WatchOutcome, watch};
 use std::alloc::{AllocError, Global};
 use std::marker::Sync;
 use std::process::Abort;
@@ -93,7 +93,7 @@ pub(super) fn table() -> SubTable<KINDS>
 }
 
 /// Watches a script, and answers what it came to and what is written. The gate is asked around each step.
-pub(super) fn watched<R: Threads + Wait + Sync, G: Gate + Sync>(
+pub(super) fn watched<R: Threads + Wait + Sync, G: WatchGate>(
     rt: &R,
     gate: &G,
     script: &str,

@@ -1,5 +1,5 @@
 use Rattle.std.proofs.Common.{◌<◌, length, arith}
-use Rattle.flt_lane.specs.declared.lane.LaneWork.{LaneWork}
+use Rattle.flt_lane.specs.Views.{LaneWork, known_locks}
 use Rattle.flt_lane.specs.Work.{HasConfig, IsPrepared}
 use Rattle.flt_lane.proofs.Swapping.{all_exchanged, are_run, exchanged, stores_exchanged}
 use Rattle.flt_lane.proofs.lane.run_block.Goals as goal
@@ -12,7 +12,7 @@ run_first-requires-clause-first g c κs within =
 pub run_first-requires-clause-ready : goal.run_first-requires-clause-ready
 run_first-requires-clause-ready g c κs within =
     let stores = c.in-Some.ensures.some in
-    all_exchanged (IsPrepared c.args.locks.now) c.in-Some.place c.args.lanes.now c.swap.new.self
+    all_exchanged (IsPrepared (known_locks c.args.locks.now)) c.in-Some.place c.args.lanes.now c.swap.new.self
     (exchanged c.in-Some.place c.args.lanes.now c.swap.new.self stores.within c.swap.ensures.len c.swap.ensures.by_index) c.requires.ready
 
 pub run_first-requires-clause-config : goal.run_first-requires-clause-config

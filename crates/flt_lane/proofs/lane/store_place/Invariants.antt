@@ -1,5 +1,5 @@
 use Rattle.std.proofs.Common.{◌≡◌, ◌<◌, ℕ, false, get_or}
-use Rattle.flt_lane.specs.declared.lane.LaneWork.{LaneWork}
+use Rattle.flt_lane.specs.Views.{LaneWork}
 use Rattle.flt_lane.specs.Stored.{is_store_lane}
 use Rattle.flt_lane.proofs.lane.store_place.Given as goal
 

@@ -2,6 +2,7 @@ use Rattle.std.proofs.Common.{inl, ◌∷◌, map, arith, refl, ap, subst}
 use Rattle.flt_step.specs.declared.step.Part.{Part}
 use Rattle.flt_step.specs.Part.{part_of}
 use Rattle.flt_life_model.specs.Room.{told_in}
+use Rattle.flt_lane.specs.Views.{known_by}
 use Rattle.flt_lane.specs.BlockRun.{GainsPart}
 use Rattle.flt_lane.specs.declared.living.LifeAnswers.{LifeAnswers}
 use Rattle.flt_lane.specs.Parts.{CanRunParts, RunsPart}
@@ -12,27 +13,27 @@ use Rattle.flt_lane.proofs.living.run_part.Goals as goal
 
 -- ---- a step
 
-gains_step : (g : given.Over) (c : goal.After-after g) → GainsPart c.args.common.now.config.now c.args.seats.now.dem c.do_step.new.seats.dem c.args.seats.now.queue c.do_step.new.seats.queue (inl c.in-One.step) (told_in c.args.answers.now.own)
-    (told_in c.do_step.new.replies) (map told_in c.args.answers.now.told.items) (map told_in c.args.answers.now.told.items) c.args.store.now c.do_step.new.store
+gains_step : (g : given.Over) (c : goal.After-after g) → GainsPart g.S.LifeStore.keeping c.args.common.now.config.now c.args.seats.now c.make_step.new.seats (inl c.in-One.step) (told_in c.args.answers.now.own)
+    (told_in c.make_step.new.replies) (map told_in c.args.answers.now.told.items) (map told_in c.args.answers.now.told.items) c.args.store.now c.make_step.new.self
 gains_step g c =
-    gains_one c.args.common.now.config.now c.args.seats.now.dem c.do_step.new.seats.dem c.args.seats.now.queue c.do_step.new.seats.queue c.args.store.now c.do_step.new.store c.in-One.step c.args.answers.now.own c.do_step.new.replies
-    (map told_in c.args.answers.now.told.items) c.requires.can.1.main.0 c.requires.can.1.main.1 c.do_step.ensures.takes
+    gains_one g.S.LifeStore.keeping c.args.common.now.config.now c.args.seats.now c.make_step.new.seats c.args.store.now c.make_step.new.self c.in-One.step c.args.answers.now.own c.make_step.new.replies
+    (map told_in c.args.answers.now.told.items) c.requires.can.1.main.0 c.requires.can.1.main.1 c.make_step.ensures.takes
 
 pub returns-in-One-clause-runs : goal.returns-in-One-clause-runs
 returns-in-One-clause-runs g c =
     let answers = c.args.answers.now in
-    let told : LifeAnswers = record { own = c.do_step.new.replies; told = answers.told; response = c.do_step.new.response } in
-    let runs : RunsPart c.args.common.now.config.now c.args.seats.now c.do_step.new.seats (inl c.in-One.step) answers told c.args.store.now c.do_step.new.store =
+    let told : LifeAnswers = record { own = c.make_step.new.replies; told = answers.told; response = c.make_step.new.response } in
+    let runs : RunsPart g.S.LifeStore.keeping c.args.common.now.config.now c.args.seats.now c.make_step.new.seats (inl c.in-One.step) answers told c.args.store.now c.make_step.new.self =
     record { gains = gains_step g c; told_len = omega arith } in
     rw c.in-One.is runs
 
 pub returns-in-One-clause-can : goal.returns-in-One-clause-can
 returns-in-One-clause-can g c = λ rest given.
-    let made = c.do_step.ensures.takes.made in
-    let can = subst (λ (p : Part). CanRunParts c.args.common.now.locks.now c.args.common.now.config.now c.args.seats.now c.args.store.now c.args.rooms.now.rest.items c.args.answers.now (part_of p ∷ rest)) c.in-One.is given in
-    can_behind c.args.common.now.locks.now c.args.common.now.config.now c.args.seats.now c.args.store.now c.args.rooms.now.rest.items c.args.answers.now (inl c.in-One.step) rest can
-    c.do_step.new.seats c.do_step.new.store c.args.rooms.now.rest.items (record { own = c.do_step.new.replies; told = c.args.answers.now.told; response = c.do_step.new.response })
-    (gains_step g c) c.do_step.ensures.lock c.do_step.ensures.queue made.dem.left made.queue.left (omega (arith, made.keeps.len)) (made.keeps.room _ can.room.own) (omega arith) refl
+    let made = c.make_step.ensures.takes.made in
+    let can = subst (λ (p : Part). CanRunParts g.S.LifeStore.keeping (known_by g.L.StatusLock.known c.args.common.now.locks.now) c.args.common.now.config.now c.args.seats.now c.args.store.now c.args.rooms.now.rest.items c.args.answers.now (part_of p ∷ rest)) c.in-One.is given in
+    can_behind g.S.LifeStore.keeping g.met.S.LifeStore.laws (known_by g.L.StatusLock.known c.args.common.now.locks.now) c.args.common.now.config.now c.args.seats.now c.args.store.now c.args.rooms.now.rest.items c.args.answers.now (inl c.in-One.step) rest can
+    c.make_step.new.seats c.make_step.new.self c.args.rooms.now.rest.items (record { own = c.make_step.new.replies; told = c.args.answers.now.told; response = c.make_step.new.response })
+    (gains_step g c) c.make_step.ensures.lock c.make_step.ensures.queue made.dem.left made.queue.left (omega (arith, made.keeps.len)) (made.keeps.room _ can.room.own) (omega arith) refl
     (record { lanes_are = can.rooms_are.lanes_are; ready = can.rooms_are.ready })
 
 -- ---- a block
@@ -41,7 +42,7 @@ pub run_lanes-requires-clause-can : goal.run_lanes-requires-clause-can
 run_lanes-requires-clause-can g c κs within = (
   c.next.new.self.rest.items,
   c.requires.can.0,
-  can_next c.args.common.now.locks.now c.args.common.now.config.now c.args.seats.now c.args.store.now c.args.answers.now (part_of c.args.part.now) _ c.requires.can.0 c.in-Some.room _ _
+  can_next g.S.LifeStore.keeping (known_by g.L.StatusLock.known c.args.common.now.locks.now) c.args.common.now.config.now c.args.seats.now c.args.store.now c.args.answers.now (part_of c.args.part.now) _ c.requires.can.0 c.in-Some.room _ _
       (ap part_of c.in-Lanes.is) c.in-Some.ensures.items c.requires.can.1,
 )
 
@@ -50,4 +51,4 @@ returns-in-Some-clause-runs g c = rw (next_room (part_of c.args.part.now) _ c.re
 
 pub returns-in-Some-clause-can : goal.returns-in-Some-clause-can
 returns-in-Some-clause-can g c = λ rest given. c.run_lanes.ensures.can c.next.new.self.rest.items rest
-    (can_next c.args.common.now.locks.now c.args.common.now.config.now c.args.seats.now c.args.store.now c.args.answers.now (part_of c.args.part.now) _ rest c.in-Some.room _ _ (ap part_of c.in-Lanes.is) c.in-Some.ensures.items given)
+    (can_next g.S.LifeStore.keeping (known_by g.L.StatusLock.known c.args.common.now.locks.now) c.args.common.now.config.now c.args.seats.now c.args.store.now c.args.answers.now (part_of c.args.part.now) _ rest c.in-Some.room _ _ (ap part_of c.in-Lanes.is) c.in-Some.ensures.items given)

@@ -1,14 +1,14 @@
 use Rattle.std.proofs.Common.{inr, ◌+◌, ◌∷◌, List, Vec, map, sym, subst, ap, ◌∙◌}
 use Rattle.flt_step.specs.declared.step.Step.{Step}
 use Rattle.flt_step.specs.Part.{part_of, parts_of}
-use Rattle.flt_lane.specs.declared.room.BlockRoom.{BlockRoom}
+use Rattle.flt_lane.specs.Views.{BlockRoom}
 use Rattle.flt_lane.proofs.Parts.{left_next, left_of}
 use Rattle.flt_lane.proofs.Rooms.{AreHandedOut, hand_more, hand_none, next_lanes}
 use Rattle.flt_lane.proofs.room.block_rooms.Goals as goal
 use Rattle.flt_lane.proofs.room.block_rooms.Goals.{in-Lanes+in_ok-room+in_ok-push, in_default}
 
 pub loop-part-preserved : goal.loop-part-preserved
-loop-part-preserved c =
+loop-part-preserved g c =
     let parts = parts_of c.args.parts.now in
     let left = left_of c.args.parts.now c.loop-part.part-index in
     let later = left_of c.args.parts.now (c.loop-part.part-index + 1) in

@@ -4,4 +4,4 @@ use Rattle.flt_lane.proofs.Rooms.{AreHandedOut}
 use Rattle.flt_lane.proofs.room.block_rooms.Given as goal
 
 abbrev pub invariant-loop-part : goal.invariant-loop-part
-invariant-loop-part l = AreHandedOut (parts_of l.parts) (left_of l.parts l.part-index) l.rooms.items l.lanes.rest.items
+invariant-loop-part g l = AreHandedOut (parts_of l.parts) (left_of l.parts l.part-index) l.rooms.items l.lanes.rest.items

@@ -1,4 +1,4 @@
-use Rattle.std.proofs.Common.{◌≡◌, ◌<◌, ◌+◌, ◌^◌, All, List, inl, inr, sym, subst, arith, ◌∙◌}
+use Rattle.std.proofs.Common.{◌≡◌, ◌<◌, ◌+◌, ◌^◌, List, inl, inr, sym, subst, ◌∙◌}
 use Rattle.std.specs.Prelude.{Err}
 use Rattle.std.specs.Io.KnownBytes.{Appends}
 use Rattle.flt_io.specs.Sink.{AppendsFront}
@@ -8,35 +8,25 @@ use Rattle.flt_step.specs.Part.{parts_of}
 use Rattle.flt_life_model.specs.declared.life.Boot.TheVariants.{Started}
 use Rattle.flt_life_model.specs.Parts.{widths}
 use Rattle.flt_notify.specs.Table.{value_of_kind}
-use Rattle.flt_watch.specs.Block.{IsWatchPartFor}
 use Rattle.flt_watch.specs.Text.{watch_text}
-use Rattle.flt_watch.specs.Watched.{IsWatchedLife}
+use Rattle.flt_watch.specs.Watched.{CanBeWatched, IsWatchedLife}
 use Rattle.flt_watch.proofs.MadeScript.{nothing_written, same_base, same_values, watched_stays}
 use Rattle.flt_watch.proofs.OneLife.{livable}
 use Rattle.flt_watch.proofs.watching.watch_script.Goals as goal
 
-pub live-requires-clause-steps : goal.live-requires-clause-steps
-live-requires-clause-steps g c κs within =
+pub live-requires-clause-can : goal.live-requires-clause-can
+live-requires-clause-can g c κs within =
     let script = c.args.script.now in
     let life = c.index-parts.result.now in
     let fit = livable script.config script.lives.items life c.requires.watchable c.index-parts.ensures script.in_range script.few script.few_parts in
-    subst (λ (parts : List Part). All (IsWatchPartFor script.config) (parts_of parts)) (sym c.deref.ensures.value) fit.steps
-
-pub live-requires-clause-numbers : goal.live-requires-clause-numbers
-live-requires-clause-numbers g c κs within =
-    let script = c.args.script.now in
-    let life = c.index-parts.result.now in
-    let fit = livable script.config script.lives.items life c.requires.watchable c.index-parts.ensures script.in_range script.few script.few_parts in
-    let small : widths (parts_of life.items) + 1 < 2 ^ 32 = omega (arith, fit.small) in
-    subst (λ (parts : List Part). widths (parts_of parts) + 1 < 2 ^ 32) (sym c.deref.ensures.value) small
+    subst (CanBeWatched script.config) (sym c.deref.ensures.value) fit.can
 
 pub write_watched-requires-clause-lanes : goal.write_watched-requires-clause-lanes
 write_watched-requires-clause-lanes g c =
     let script = c.args.script.now in
     let life = c.index-parts.result.now in
     let fit = livable script.config script.lives.items life c.requires.watchable c.index-parts.ensures script.in_range script.few script.few_parts in
-    let small : widths (parts_of life.items) + 1 < 2 ^ 32 = omega (arith, fit.small) in
-    subst (λ (parts : List Part). widths (parts_of parts) + 1 < 2 ^ 32) (sym c.deref-2.ensures.value) small
+    subst (λ (parts : List Part). widths (parts_of parts) + 1 < 2 ^ 32) (sym c.deref-2.ensures.value) fit.can.numbers
 
 pub returns-in_default : goal.returns-in_default
 returns-in_default g c =
