@@ -1,5 +1,5 @@
 -- One step more of a life, by what it does.
-use Rattle.std.proofs.Common.{◌≡◌, ◌<◌, ◌∷◌, ℕ, List, refl, sym, subst, arith}
+use Rattle.std.proofs.Common.{◌≡◌, ◌≢◌, ◌<◌, ◌∷◌, ℕ, List, refl, sym, subst, arith}
 use Rattle.flt_config.specs.declared.config.Config.{Config}
 use Rattle.flt_flash.specs.Blocks.{BlocksState}
 use Rattle.flt_flash.specs.Calls.{Follows}
@@ -17,7 +17,7 @@ use Rattle.flt_queue.specs.Stands as standing
 use Rattle.flt_step.specs.declared.step.Step.{Step}
 use Rattle.flt_store.specs.declared.store.Store.{Store}
 use Rattle.flt_store.specs.Store.{IsRunning, driver_of}
-use Rattle.flt_life_model.specs.Actions.{IsQueueCall, action_of}
+use Rattle.flt_life_model.specs.Actions.{IsQueueCall, action_of, arm_count}
 use Rattle.flt_life_model.specs.Answers.{Told}
 use Rattle.flt_life_model.specs.Applications.{AreHeld, GetsBy, MayHold, answers_of, jobs_told, up_to_done}
 use Rattle.flt_life_model.specs.Chain.{start_from}
@@ -170,3 +170,20 @@ module _ {B : Type 0} {b : Ghosts B} (c : Config) (step : Step) where
         got = (subst (λ (does : Action). GetsBy found done.after (deeds_made made) does told) (sym is) tt, held.got);
         told = omega arith;
       })
+
+-- What leaves the queue and the application blocks alone, by what it is not.
+pub plain_else : (action : Action) → ((op : QueueOp) → action ≢ actions.Queue op) → action ≢ actions.Drain → ((block : ℕ) → action ≢ actions.Get block) → IsPlain action
+plain_else (actions.Call op) no_job no_drain no_get = tt
+plain_else actions.Save no_job no_drain no_get = tt
+plain_else (actions.Arm arm) no_job no_drain no_get = tt
+plain_else (actions.Queue op) no_job no_drain no_get = absurd (no_job op refl)
+plain_else actions.Drain no_job no_drain no_get = absurd (no_drain refl)
+plain_else (actions.Get block) no_job no_drain no_get = absurd (no_get block refl)
+
+pub no_arm : (action : Action) → IsNoArm action → arm_count action ≡ 0
+no_arm (actions.Call op) none = refl
+no_arm (actions.Queue op) none = refl
+no_arm actions.Save none = refl
+no_arm actions.Drain none = refl
+no_arm (actions.Get block) none = refl
+no_arm (actions.Arm arm) none = absurd none

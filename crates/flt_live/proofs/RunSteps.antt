@@ -14,10 +14,10 @@ use Rattle.flt_life_model.specs.Answers.{Told}
 use Rattle.flt_life_model.specs.Journal.{Journal, entry}
 use Rattle.flt_life_model.specs.Played.{ActionMakes}
 use Rattle.flt_lives.specs.Carried.{IsAnsweredBy, answer_at, with_calls}
-use Rattle.flt_live.specs.Laws.{AreAnsweredAfter, IsStepOfRun, after_calls}
+use Rattle.flt_live.specs.Laws.{AreAnsweredAfter, IsStepOfRun, journal_with}
 
 by_action : (start : Start) (journal : Journal) (action : Action) (told : Told) → IsAnsweredBy start journal action told
-    → (calls : List (Call Op Reply)) × ActionMakes action told calls × (with_calls action told journal ≡ after_calls calls journal) × AreAnsweredAfter start journal calls
+    → (calls : List (Call Op Reply)) × ActionMakes action told calls × (with_calls action told journal ≡ journal_with calls journal) × AreAnsweredAfter start journal calls
 by_action start journal (actions.Call op) (answers.Dem told) reply = (record { op = op; told = told } ∷ [], (told, refl, refl), refl, (reply, tt))
 by_action start journal (actions.Call op) (answers.Queue told) reply = absurd reply
 by_action start journal (actions.Call op) (answers.Saved number) reply = absurd reply

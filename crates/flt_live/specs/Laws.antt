@@ -90,8 +90,8 @@ StatusesTell = (end : SessionEnd) → MayEndSo (status_due end) end
 -- ---- a step of a session is a step of a run
 
 -- These calls of the only lane come after a journal: the newest first.
-abbrev pub after_calls : List (Call Op Reply) → Journal → Journal
-after_calls calls journal = reverse (map (λ call. entry 0 call.op) calls) ++ journal
+abbrev pub journal_with : List (Call Op Reply) → Journal → Journal
+journal_with calls journal = reverse (map (λ call. entry 0 call.op) calls) ++ journal
 
 -- Each of these calls, which come after a journal, is answered by the machine at its own place.
 abbrev pub AreAnsweredAfter : Start → Journal → List (Call Op Reply) → Type 0
@@ -107,7 +107,7 @@ pub record IsStepOfRun (start : Start) (journal : Journal) (step : Step) (told :
   -- They are those that a step of a run makes by this answer.
   pub made : StepMakes step told calls
   -- They are what the step added.
-  pub added : with_calls (action_of step) told journal ≡ after_calls calls journal
+  pub added : with_calls (action_of step) told journal ≡ journal_with calls journal
   -- Each is answered at its own place.
   pub answered : AreAnsweredAfter start journal calls
 

@@ -17,6 +17,7 @@ use flt_queue::JobQueue;
 use flt_store::Store;
 
 /// Makes a step that arms nothing, and answers it. If the answer is a response, its bytes are among the buffers.
+#[inline(always)]
 pub(crate) fn make<D: Blocks + Drop>(
     unit: &mut Unit,
     queue: &mut JobQueue,
@@ -34,18 +35,17 @@ pub(crate) fn make<D: Blocks + Drop>(
     ensures made { (step : Step) → action_of step ≡ action → MakesStep config.now step (told_with buffers.new.response.items result)
         (unit_seen unit.old) (unit_seen unit.new) queue.old queue.new store.old store.new }
 {
-    match &action {
-        Action::Call(_) => make_step(unit, store, config, buffers, action, 0, &mut NoJournal),
-        Action::Save => make_step(unit, store, config, buffers, action, 0, &mut NoJournal),
+    match action {
         Action::Queue(op) => {
-            let reply = queue.apply(op);
+            let reply = queue.apply(&op);
             StepAnswer::Queue(Answer { place: 0, reply })
         }
         Action::Drain => {
             let (written, failed) = drain(queue, store, config);
             StepAnswer::Drained { written, failed }
         }
-        Action::Get(block) => get(store, config, *block),
+        Action::Get(block) => get(store, config, block),
         Action::Arm(_) => unreachable!(),
+        plain => make_step(unit, store, config, buffers, plain, 0, &mut NoJournal),
     }
 }

@@ -1,26 +1,26 @@
-use Rattle.std.proofs.Common.{◌≡◌, ◌<◌, ◌∙◌, ◌∷◌, ap, sym, subst, arith}
+use Rattle.std.proofs.Common.{◌<◌, ◌∙◌, ◌∷◌, sym, subst, arith}
 use Rattle.flt_store_model.specs.Layout.{applications}
 use Rattle.flt_dcm.specs.Whole.{unit_seen}
 use Rattle.flt_queue.specs.Stands.{QueueStands}
-use Rattle.flt_life_model.specs.Actions.{IsPossible, arm_count}
-use Rattle.flt_lives.specs.Alone.{IsPlain}
+use Rattle.flt_life_model.specs.Actions.{IsPossible}
 use Rattle.flt_life_model.specs.Answers.{told_with}
-use Rattle.flt_live.proofs.Midway.{made_plain, made_queue, made_drain, made_get}
+use Rattle.flt_live.proofs.Midway.{made_plain, made_queue, made_drain, made_get, no_arm, plain_else}
 use Rattle.flt_live.proofs.making.make.Goals as goal
 
-pub returns-in-Call-clause-made : goal.returns-in-Call-clause-made
-returns-in-Call-clause-made g c = λ step is.
-    let plain = subst IsPlain (sym c.in-Call.is) tt in
-    let none : arm_count c.args.action ≡ 0 = ap arm_count c.in-Call.is in
-    made_plain c.args.config.now step c.args.action _ is plain c.requires.no_arm (unit_seen c.args.unit.now) (unit_seen c.make_step.new.unit) c.args.queue.now c.args.store.now c.make_step.new.store
-    c.make_step.ensures.made c.make_step.ensures.leaves.applications (c.make_step.ensures.leaves.calls none)
+pub make_step-requires-clause-step : goal.make_step-requires-clause-step
+make_step-requires-clause-step g c =
+    let none = no_arm c.args.action c.requires.no_arm in
+    record {
+      possible = c.requires.possible;
+      plain = plain_else c.args.action c.in_default.not-Queue c.in_default.not-Drain c.in_default.not-Get;
+      arms = λ some. absurd (omega (arith, some, none));
+    }
 
-pub returns-in-Save-clause-made : goal.returns-in-Save-clause-made
-returns-in-Save-clause-made g c = λ step is.
-    let plain = subst IsPlain (sym c.in-Save.is) tt in
-    let none : arm_count c.args.action ≡ 0 = ap arm_count c.in-Save.is in
-    made_plain c.args.config.now step c.args.action _ is plain c.requires.no_arm (unit_seen c.args.unit.now) (unit_seen c.make_step-in-Save.new.unit) c.args.queue.now c.args.store.now c.make_step-in-Save.new.store
-    c.make_step-in-Save.ensures.made c.make_step-in-Save.ensures.leaves.applications (c.make_step-in-Save.ensures.leaves.calls none)
+pub returns-in_default-clause-made : goal.returns-in_default-clause-made
+returns-in_default-clause-made g c = λ step is.
+    let plain = plain_else c.args.action c.in_default.not-Queue c.in_default.not-Drain c.in_default.not-Get in
+    made_plain c.args.config.now step c.args.action _ is plain c.requires.no_arm (unit_seen c.args.unit.now) (unit_seen c.make_step.new.unit) c.args.queue.now c.args.store.now c.make_step.new.store
+    c.make_step.ensures.made c.make_step.ensures.leaves.applications (c.make_step.ensures.leaves.calls (no_arm c.args.action c.requires.no_arm))
 
 pub returns-in-Queue-clause-made : goal.returns-in-Queue-clause-made
 returns-in-Queue-clause-made g c = λ step is.
