@@ -42,10 +42,6 @@ module _ {B : Type 0} {b : Ghosts B} (c : Config) (first : BlocksState) (before 
         subst (λ (m : Moment). IsLifeBetween c m (moment_of (driver_of after)) (driver_of after).device.faults (without_steps (Refused fault))) (same_moment first (driver_of before) powers)
         (refused_is c before after fault (refuses fault other) follows told (keeps c (driver_of before) (driver_of after) follows left), refl, same)
 
--- No life is refused for the flash.
-pub refused_other : {B : Type 0} {b : Ghosts B} (c : Config) (first : BlocksState) (fault : StartFault) (store : Store B b) → BeginsOn c first (Refused fault) store → fault ≢ faults.Flash
-refused_other c first fault store begun = λ is. absurd (subst (λ (f : StartFault). IsBegunBy c first (Refused f) store) is begun.is).0
-
 -- On the blocks that were there.
 pub begins_by : {B : Type 0} {b : Ghosts B} (c : Config) (first : BlocksState) (before after : Store B b) (boot : Boot) → PowersUpDriver first (driver_of before) → Follows (driver_of before) (driver_of after)
     → SameApplications (driver_of before).value (driver_of after).value → IsBegunBy c first boot after → BeginsOn c first boot after

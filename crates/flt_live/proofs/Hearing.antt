@@ -371,23 +371,3 @@ module _ (c : Config) where
         by_line : (answered.line ≡ dark_line (due_at c text)) ⊎ ((result ≡ Err streams.Memory) × (answered.line ≡ [])) → (answered.line ≡ []) ⊎ ((more : List Made) × LineComesTo (due_at c (text_in dark_heard)) answered.line going.made more)
         by_line (inl line_is) = subst (λ (what : Due). (answered.line ≡ []) ⊎ ((more : List Made) × LineComesTo what answered.line going.made more)) dark_due_is (dark_may_come going.made (due_at c text) answered.line line_is)
         by_line (inr leaves) = inl leaves.1
-
-  module _ (start now next : Talk) (going : IsDarkGoing start now) (same : next.held ≡ now.held) where
-    dark_still : Appends start.held next.held (answer_bytes going.heard)
-    dark_still = subst (λ held. Appends start.held held (answer_bytes going.heard)) (sym same) going.written
-
-    pub dark_end_ends : (kept : List ℕ) → TakesLine now.ahead next.ahead Ended kept → TakesDarkLines c start next ends.Ended
-    dark_end_ends kept taken = record {
-      heard = going.heard;
-      made = going.made;
-      are = going.are;
-      dark = going.dark;
-      written = dark_still;
-      ended = (
-        subst (Consumes start.ahead next.ahead) (append-nil (heard_bytes going.heard)) (then_takes start.ahead now.ahead next.ahead (heard_bytes going.heard) [] going.read (none_taken now.ahead next.ahead kept taken)),
-        taken.end.1,
-      );
-    }
-
-    pub dark_unread_ends : Rose start.read_faults next.read_faults → TakesDarkLines c start next ends.Unread
-    dark_unread_ends rose = record { heard = going.heard; made = going.made; are = going.are; dark = going.dark; written = dark_still; ended = rose }

@@ -10,4 +10,4 @@ pub mod Seen
 pub mod Spans
 pub mod Closings
 pub mod Sessions
-pub mod RunSteps
+pub mod Played

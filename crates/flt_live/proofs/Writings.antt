@@ -1,7 +1,7 @@
 -- Texts that are written one after the other, and where no byte was written.
 use Rattle.std.proofs.Common.{◌≡◌, ◌++◌, ℕ, List, [], Option, Some, None, Result, Err, sym, ap, subst, arith, ◌∙◌}
 use Rattle.std.proofs.lemmas.List.{append-nil, append_assoc}
-use Rattle.std.proofs.Math.Seq.{take-append-add, take-length}
+use Rattle.std.proofs.Math.Seq.{take-append-add}
 use Rattle.std.specs.Prelude.{OnErr, ◌+◌, length, take}
 use Rattle.std.specs.Io.KnownBytes.{Appends}
 use Rattle.flt_io.specs.Sink.{AppendsFront}
@@ -22,10 +22,7 @@ appends_more (Some a) None c xs ys first second = absurd first
 appends_more (Some a) (Some b) None xs ys first second = absurd second
 appends_more (Some a) (Some b) (Some c) xs ys first second = second ∙ ap (λ l. l ++ ys) first ∙ append_assoc a xs ys
 
--- The whole is a front of itself, and after a text that was written comes a front of both.
-pub front_whole : (a b : Option (List ℕ)) (xs : List ℕ) → Appends a b xs → AppendsFront a b xs
-front_whole a b xs whole = (length xs, subst (Appends a b) (sym (take-length xs)) whole)
-
+-- After a text that was written comes a front of both.
 pub front_more : (a b c : Option (List ℕ)) (xs ys : List ℕ) → Appends a b xs → AppendsFront b c ys → AppendsFront a c (xs ++ ys)
 front_more a b c xs ys first front = (length xs + front.0, subst (Appends a c) (sym (take-append-add xs ys front.0)) (appends_more a b c xs (take front.0 ys) first front.1))
 

@@ -4,8 +4,14 @@ use Rattle.flt_config.specs.declared.config.Config.{Config}
 use Rattle.flt_config.specs.declared.persist.Persist.{Persist}
 use Rattle.flt_file.specs.declared.opening.OpenFault.TheVariants as shelves
 use Rattle.flt_restore.specs.declared.fault.StartFault.TheVariants as faults
+use Rattle.flt_store.specs.declared.fault.SaveFault.TheVariants as save_faults
+use Rattle.flt_model.specs.Reply.{Reply}
+use Rattle.flt_model.specs.declared.call.ReplyOf.TheVariants as replies
+use Rattle.flt_queue.specs.Reply.{QueueReply}
+use Rattle.flt_queue.specs.declared.job.QueueReplyOf.TheVariants as queue_replies
 use Rattle.flt_step.specs.declared.step.Step.TheVariants as steps
 use Rattle.flt_life_model.specs.Answers.{Told}
+use Rattle.flt_life_model.specs.declared.answer.StepAnswer.TheVariants as answers
 use Rattle.flt_life_model.specs.declared.life.Boot.TheVariants as boots
 use Rattle.flt_live.specs.declared.living.LifeEnd.TheVariants.{Power}
 use Rattle.flt_live.specs.declared.reader.Line.TheVariants.{Fed, Cut, Ended}
@@ -13,6 +19,7 @@ use Rattle.flt_live.specs.declared.line.Due.TheVariants as due
 use Rattle.flt_live.specs.Ahead.{ahead_with, kept_text}
 use Rattle.flt_live.specs.Due.{due_at}
 use Rattle.flt_live.specs.Heard.{AreHeard, Heard, Talk, answer_bytes, heard_bytes}
+use Rattle.flt_live.specs.Laws.{without_place}
 use Rattle.flt_live.specs.Made.{Made}
 use Rattle.flt_live.specs.Session.{Closed, Other, Refused, SessionEnd, Unread, Unreadable, session_in, status_due}
 use Rattle.flt_live.specs.Session as sessions
@@ -83,3 +90,28 @@ pub record WordsAsk : Type 0 where
 pub record PulledComesFirst : Type 0 where
   pub told : ahead_with (1 ∷ 2 ∷ []) (Some (3 ∷ [])) ≡ Some (1 ∷ 2 ∷ 3 ∷ [])
   pub untold : ahead_with (1 ∷ []) None ≡ None
+
+-- An answer of the status machine, and one of the queue, at a place.
+abbrev pub replied : ℕ → Reply → Told
+replied place reply = answers.Dem (record { place = place; reply = reply })
+
+abbrev pub queued : ℕ → QueueReply → Told
+queued place reply = answers.Queue (record { place = place; reply = reply })
+
+-- An answer of the machine or of the queue loses its place and nothing else; each other answer stays as it is. Answers that differ in more
+-- than their places do so without them.
+pub record PlacesAreLeftOut : Type 0 where
+  pub dem : without_place (replied 7 replies.Taken) ≡ replied 0 replies.Taken
+  pub queue : without_place (queued 3 queue_replies.Accepted) ≡ queued 0 queue_replies.Accepted
+  pub saved : without_place (answers.Saved 5) ≡ answers.Saved 5
+  pub save_failed : without_place (answers.SaveFailed save_faults.Flash) ≡ answers.SaveFailed save_faults.Flash
+  pub drained : without_place (answers.Drained 2 1) ≡ answers.Drained 2 1
+  pub bytes : without_place (answers.Bytes (record { items = 4 ∷ 9 ∷ [] })) ≡ answers.Bytes (record { items = 4 ∷ 9 ∷ [] })
+  pub no_block : without_place answers.NoBlock ≡ answers.NoBlock
+  pub block_flash : without_place answers.BlockFlash ≡ answers.BlockFlash
+  pub armed : without_place answers.Armed ≡ answers.Armed
+  pub dark : without_place answers.Dark ≡ answers.Dark
+  pub other_reply : ¬ (without_place (replied 7 replies.Taken) ≡ without_place (replied 7 replies.Silent))
+  pub other_queue_reply : ¬ (without_place (queued 3 queue_replies.Accepted) ≡ without_place (queued 3 queue_replies.QueueFull))
+  pub other_number : ¬ (without_place (answers.Saved 5) ≡ without_place (answers.Saved 6))
+  pub other_machine : ¬ (without_place (replied 0 replies.Taken) ≡ without_place (queued 0 queue_replies.Accepted))

@@ -1,5 +1,5 @@
--- What follows for the lives of a session if the first one finds a sound image.
-use Rattle.std.specs.Prelude.{◌≡◌, ◌⊎◌, ◌==◌, ◌++◌, ℕ, List, [], ◌∷◌, map, reverse, true}
+-- What follows for the lives of a session.
+use Rattle.std.specs.Prelude.{◌≡◌, ◌⊎◌, ◌==◌, ℕ, List, [], ◌∷◌, map, true}
 use Rattle.flt_config.specs.declared.config.Config.{Config}
 use Rattle.flt_config.specs.declared.persist.Persist.{Persist}
 use Rattle.flt_file.specs.declared.opening.OpenFault.{OpenFault}
@@ -8,27 +8,19 @@ use Rattle.flt_restore.specs.declared.fault.StartFault.{StartFault}
 use Rattle.flt_restore.specs.declared.fault.StartFault.TheVariants as faults
 use Rattle.flt_script.specs.declared.fault.ScriptFault.{ScriptFault}
 use Rattle.flt_store_model.specs.Laws.{IsGiven}
-use Rattle.flt_model.specs.Start.{Start}
-use Rattle.flt_model.specs.Answer.{answer}
-use Rattle.flt_model.specs.declared.call.Op.{Op}
-use Rattle.flt_model.specs.Reply.{Reply}
-use Rattle.flt_step.specs.declared.step.Step.{Step}
-use Rattle.flt_fork.specs.Mixing.{Call}
-use Rattle.flt_life_model.specs.Actions.{action_of}
 use Rattle.flt_life_model.specs.Answers.{Told}
 use Rattle.flt_life_model.specs.Applications.{Choose}
-use Rattle.flt_life_model.specs.Journal.{Journal, calls_of, entry}
-use Rattle.flt_life_model.specs.Played.{StepMakes}
-use Rattle.flt_lives.specs.Carried.{IsAnsweredBy, with_calls}
+use Rattle.flt_life_model.specs.Played.{IsPlayed}
 use Rattle.flt_life_model.specs.Chain.{LifeView}
 use Rattle.flt_life_model.specs.Laws.{BeginsNoOlder, IsNoOlder, IsSoundIn, acknowledged_in, last_acknowledged}
 use Rattle.flt_life_model.specs.Moment.{moment_of}
+use Rattle.flt_life_model.specs.declared.answer.StepAnswer.TheVariants as answers
 use Rattle.flt_life_model.specs.declared.life.Boot.{Boot}
 use Rattle.flt_life_model.specs.declared.life.Boot.TheVariants as boots
 use Rattle.flt_live.specs.declared.living.LifeEnd.{LifeEnd}
 use Rattle.flt_live.specs.Heard.{Talk}
 use Rattle.flt_live.specs.Session.{Closed, Ended, Other, Refused, SessionEnd, Unread, Unreadable, status_due}
-use Rattle.flt_live.specs.Span.{AreSpans, LifeSpan}
+use Rattle.flt_live.specs.Span.{AreSpans, IsWholeLife, LifeSpan}
 
 -- The first of these lives, which is the last of the list, finds a sound image.
 abbrev pub FirstFindsSound : Config → List LifeSpan → Type 0
@@ -87,30 +79,24 @@ MayEndSo status end =
 abbrev pub StatusesTell : Type 0
 StatusesTell = (end : SessionEnd) → MayEndSo (status_due end) end
 
--- ---- a step of a session is a step of a run
+-- ---- a life of a session is played as one of a run
 
--- These calls of the only lane come after a journal: the newest first.
-abbrev pub journal_with : List (Call Op Reply) → Journal → Journal
-journal_with calls journal = reverse (map (λ call. entry 0 call.op) calls) ++ journal
+-- An answer without its place in the journal of its machine.
+abbrev pub without_place : Told → Told
+without_place (answers.Dem told) = answers.Dem (record { place = 0; reply = told.reply })
+without_place (answers.Queue told) = answers.Queue (record { place = 0; reply = told.reply })
+without_place told = told
 
--- Each of these calls, which come after a journal, is answered by the machine at its own place.
-abbrev pub AreAnsweredAfter : Start → Journal → List (Call Op Reply) → Type 0
-AreAnsweredAfter start journal [] = Unit {0}
-AreAnsweredAfter start journal (call ∷ calls) =
-    (call.told.reply ≡ answer start (calls_of journal) call.op) × AreAnsweredAfter start (entry 0 call.op ∷ journal) calls
+-- A life but for the places of its answers: with places for them it has the calls of its steps in order, and each answer is that of its
+-- machine at its place.
+pub record IsPlayedInPlaces (c : Config) (life : LifeView) : Type 0 where
+  -- Answers with places.
+  pub own : List Told
+  -- Without them they are the answers of the life without theirs.
+  pub same : map without_place own ≡ map without_place life.own
+  -- With these answers the life is one of a run.
+  pub played : IsPlayed c (record life { own = own })
 
--- What a step was answered, and the calls that it added, are those of which the lives of a run are made: its calls are those of the step by
--- this answer, and each is answered at its place.
-pub record IsStepOfRun (start : Start) (journal : Journal) (step : Step) (told : Told) : Type 0 where
-  -- The calls of the step.
-  pub calls : List (Call Op Reply)
-  -- They are those that a step of a run makes by this answer.
-  pub made : StepMakes step told calls
-  -- They are what the step added.
-  pub added : with_calls (action_of step) told journal ≡ journal_with calls journal
-  -- Each is answered at its own place.
-  pub answered : AreAnsweredAfter start journal calls
-
--- So it is with each step of a session that leaves the queue and the application blocks alone, whatever calls came before.
-abbrev pub StepsAreThoseOfRuns : Type 0
-StepsAreThoseOfRuns = (start : Start) (journal : Journal) (step : Step) (told : Told) → IsAnsweredBy start journal (action_of step) told → IsStepOfRun start journal step told
+-- So it is with each whole life of a session, whatever its steps.
+abbrev pub LivesArePlayed : Type 0
+LivesArePlayed = (c : Config) (life : LifeSpan) (end : LifeEnd) → IsWholeLife c life end → IsPlayedInPlaces c life.view

@@ -8,5 +8,5 @@ pub mod Lived
 pub mod Session
 pub mod Shelf
 pub mod Span
-pub mod Examples
 pub mod Laws
+pub mod Examples

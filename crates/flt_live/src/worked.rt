@@ -2,7 +2,7 @@
 ghost use Rattle.std.specs.Prelude.{Bool};
 ghost use Rattle.flt_config.specs.declared.config.Config.{Config};
 ghost use Rattle.flt_live.specs.Heard.{Talk};
-ghost use Rattle.flt_live.specs.Examples.{EndsAreTold, LinesAreHeard, LivesFollow, PulledComesFirst, SayNothing, WordsAsk};
+ghost use Rattle.flt_live.specs.Examples.{EndsAreTold, LinesAreHeard, LivesFollow, PlacesAreLeftOut, PulledComesFirst, SayNothing, WordsAsk};
 
 /// What two lines come to that make no step, and what is no line.
 pub fn lines_are_heard()
@@ -27,4 +27,9 @@ pub fn words_ask()
 /// What was pulled comes before what is left.
 pub fn pulled_comes_first()
     ensures { PulledComesFirst }
+{}
+
+/// An answer without its place in a journal.
+pub fn places_are_left_out()
+    ensures { PlacesAreLeftOut }
 {}

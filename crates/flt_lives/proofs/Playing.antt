@@ -74,7 +74,7 @@ module _ {X : Type 0} where
   take_at [] rest = refl
   take_at (y ∷ front) rest = ap (λ l. y ∷ l) (take_at front rest)
 
-reverse_map : {X Y : Type 0} (f : X → Y) (xs : List X) → map f (reverse xs) ≡ reverse (map f xs)
+pub reverse_map : {X Y : Type 0} (f : X → Y) (xs : List X) → map f (reverse xs) ≡ reverse (map f xs)
 reverse_map f [] = refl
 reverse_map f (x ∷ xs) =
     ap (map f) (reverse-append (x ∷ []) xs) ∙ map-append f (reverse xs) (x ∷ []) ∙ ap (λ l. l ++ f x ∷ []) (reverse_map f xs) ∙ sym (reverse-append (f x ∷ []) (map f xs))
@@ -82,7 +82,7 @@ reverse_map f (x ∷ xs) =
 -- ---- calls of lane 0 after a journal, of any machine
 
 module _ {S O R : Type 0} (answer : S → List O → O → R) (start : S) where
-  abbrev calls_at : List (Entry O) → List O → List (Call O R)
+  abbrev pub calls_at : List (Entry O) → List O → List (Call O R)
   calls_at journal [] = []
   calls_at journal (op ∷ ops) =
       record { op = op; told = record { place = length journal; reply = answer start (ops_of journal) op } } ∷ calls_at (journal ++ entry 0 op ∷ []) ops
@@ -215,18 +215,24 @@ module _ (start : Start) where
 pub no_parts : (start : Start) → IsLife start [] [] [] [] []
 no_parts start = record { dem = made_none reply_after start StepMakes; jobs = made_none queued.reply_after start.config.blocks StepQueues }
 
--- And one more.
+-- And one more, by the calls that it makes of both machines.
+pub life_with : (start : Start) (parts : List (PartOf Step)) (own : List Told) (lanes : List (List Told)) (journal : Journal) (queue : List (Entry QueueOp)) (step : Step) (told : Told) (ops : List Op)
+    (jobs : List QueueOp) → IsLife start parts own lanes journal queue → StepMakes step told (calls_at reply_after start journal ops)
+    → StepQueues step told (calls_at queued.reply_after start.config.blocks queue jobs)
+    → IsLife start (parts ++ inl step ∷ []) (own ++ told ∷ []) lanes (journal ++ map (λ op. entry 0 op) ops) (queue ++ map (λ op. entry 0 op) jobs)
+life_with start parts own lanes journal queue step told ops jobs life makes queues = record {
+  dem = made_more reply_after start StepMakes parts own lanes journal step told ops life.dem makes;
+  jobs = made_more queued.reply_after start.config.blocks StepQueues parts own lanes queue step told jobs life.jobs queues;
+}
+
+-- And one more that leaves the queue alone.
 pub life_more : (start : Start) (parts : List (PartOf Step)) (own : List Told) (lanes : List (List Told)) (journal after : Journal) (step : Step) (told : Told)
     → IsLife start parts own lanes journal [] → IsCarriedOut start (reverse journal) (action_of step) (reverse after) told
     → IsLife start (parts ++ inl step ∷ []) (own ++ told ∷ []) lanes after []
 life_more start parts own lanes journal after step told life carried =
     let adds = ops_by start journal after (action_of step) told carried in
-    record {
-      dem = subst (λ j. IsMade StepMakes reply_after start (parts ++ inl step ∷ []) (own ++ told ∷ []) lanes j) (sym adds.is)
-          (made_more reply_after start StepMakes parts own lanes journal step told adds.ops life.dem adds.makes);
-      jobs = made_more queued.reply_after start.config.blocks StepQueues parts own lanes [] step told [] life.jobs
-          (queues_none start (reverse journal) (reverse after) (action_of step) told carried);
-    }
+    subst (λ j. IsLife start (parts ++ inl step ∷ []) (own ++ told ∷ []) lanes j []) (sym adds.is)
+    (life_with start parts own lanes journal [] step told adds.ops [] life adds.makes (queues_none start (reverse journal) (reverse after) (action_of step) told carried))
 
 -- A life of lane 0 alone, as it is reported.
 abbrev pub alone_view : List (PartOf Step) → Boot → Journal → List Told → LifeView

@@ -1,6 +1,5 @@
 -- What the steps of a life without other lanes need, and what they leave.
-use Rattle.std.specs.Prelude.{◌≡◌, ℕ, ◌+◌, ◌<◌, ◌≤◌, ◌^◌, List, [], ◌∷◌, ◌++◌, Vec, length, reverse, vec_len}
-use Rattle.std.specs.Vec.{vec_capacity}
+use Rattle.std.specs.Prelude.{◌≡◌, ℕ, ◌+◌, ◌<◌, ◌≤◌, List, [], ◌∷◌, ◌++◌, Vec, length, reverse}
 use Rattle.flt_config.specs.declared.config.Config.{Config}
 use Rattle.flt_flash.specs.declared.arm.Arm.{Arm}
 use Rattle.flt_flash.specs.declared.blocks.Blocks.{Ghosts}
@@ -48,13 +47,6 @@ pub record IsPlainAction (c : Config) (action : Action) (device : DeviceState) :
   pub plain : IsPlain action
   -- The bench has a place for its arm, if it makes one.
   pub arms : 0 < arm_count action → device.bench.armed < 64
-
--- A journal has room for this many calls, and a number for the place of each.
-pub record HasCallsLeft {A : Type 0} (count : ℕ) (journal : Vec (Entry Op) A) : Type 0 where
-  -- The journal has room for the calls.
-  pub calls : vec_len journal + count ≤ vec_capacity journal
-  -- The place of each fits four bytes.
-  pub few : vec_len journal < 2 ^ 32
 
 -- Steps of one life gave these arms to the bench of a driver, and no more than this many.
 pub record GivesArms (arms : List Arm) (most : ℕ) (before after : BlocksState) : Type 0 where
