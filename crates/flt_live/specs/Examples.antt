@@ -1,5 +1,6 @@
 -- Worked sessions, whose definitions are computed.
 use Rattle.std.specs.Prelude.{◌≡◌, ℕ, Bool, List, [], ◌∷◌, length, codes, true, false, Some, None}
+use Rattle.std.proofs.Common.{inl}
 use Rattle.flt_config.specs.declared.config.Config.{Config}
 use Rattle.flt_config.specs.declared.persist.Persist.{Persist}
 use Rattle.flt_file.specs.declared.opening.OpenFault.TheVariants as shelves
@@ -8,9 +9,12 @@ use Rattle.flt_store.specs.declared.fault.SaveFault.TheVariants as save_faults
 use Rattle.flt_model.specs.Reply.{Reply}
 use Rattle.flt_model.specs.declared.call.ReplyOf.TheVariants as replies
 use Rattle.flt_queue.specs.Reply.{QueueReply}
+use Rattle.flt_queue.specs.declared.job.LastResult.TheVariants.{Never, Written}
+use Rattle.flt_queue.specs.declared.job.QueueOp.TheVariants as queue
 use Rattle.flt_queue.specs.declared.job.QueueReplyOf.TheVariants as queue_replies
 use Rattle.flt_step.specs.declared.step.Step.TheVariants as steps
 use Rattle.flt_life_model.specs.Answers.{Told}
+use Rattle.flt_life_model.specs.Chain.{LifeView}
 use Rattle.flt_life_model.specs.declared.answer.StepAnswer.TheVariants as answers
 use Rattle.flt_life_model.specs.declared.life.Boot.TheVariants as boots
 use Rattle.flt_live.specs.declared.living.LifeEnd.TheVariants.{Power}
@@ -19,9 +23,9 @@ use Rattle.flt_live.specs.declared.line.Due.TheVariants as due
 use Rattle.flt_live.specs.Ahead.{ahead_with, kept_text}
 use Rattle.flt_live.specs.Due.{due_at}
 use Rattle.flt_live.specs.Heard.{AreHeard, Heard, Talk, answer_bytes, heard_bytes}
-use Rattle.flt_live.specs.Laws.{without_place}
+use Rattle.flt_live.specs.Laws.{IsPlayedInPlaces, without_place}
 use Rattle.flt_live.specs.Made.{Made}
-use Rattle.flt_live.specs.Session.{Closed, Other, Refused, SessionEnd, Unread, Unreadable, session_in, status_due}
+use Rattle.flt_live.specs.Session.{Closed, Other, Refused, Unread, Unreadable, session_in, status_due}
 use Rattle.flt_live.specs.Session as sessions
 use Rattle.flt_live.specs.Span.{ArePassed, LifeSpan, next_life}
 
@@ -115,3 +119,22 @@ pub record PlacesAreLeftOut : Type 0 where
   pub other_queue_reply : ¬ (without_place (queued 3 queue_replies.Accepted) ≡ without_place (queued 3 queue_replies.QueueFull))
   pub other_number : ¬ (without_place (answers.Saved 5) ≡ without_place (answers.Saved 6))
   pub other_machine : ¬ (without_place (replied 0 replies.Taken) ≡ without_place (queued 0 queue_replies.Accepted))
+
+-- A started life that asks the queue once of block 2, with these answers.
+abbrev pub one_question : Persist → List Told → LifeView
+one_question state own = record {
+  parts = inl (steps.Ask 2) ∷ [];
+  boot = boots.Started 7 state;
+  journal = [];
+  queue = record { lane = 0; op = queue.Ask 2 } ∷ [];
+  own = own;
+  lanes = [];
+}
+
+-- It is played with the answer that no job of the block was ever accepted, whatever place the answer has; with another reply it is not, nor
+-- without an answer, nor with one more.
+pub record OneQuestionIsPlayed (c : Config) (state : Persist) : Type 0 where
+  pub played : (place : ℕ) → IsPlayedInPlaces c (one_question state (queued place (queue_replies.Last Never) ∷ []))
+  pub other_reply : ¬ IsPlayedInPlaces c (one_question state (queued 0 (queue_replies.Last Written) ∷ []))
+  pub no_answer : ¬ IsPlayedInPlaces c (one_question state [])
+  pub one_more : ¬ IsPlayedInPlaces c (one_question state (queued 0 (queue_replies.Last Never) ∷ queued 1 (queue_replies.Last Never) ∷ []))

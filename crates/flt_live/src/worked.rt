@@ -1,8 +1,9 @@
 //! Worked sessions, which the checker computes.
 ghost use Rattle.std.specs.Prelude.{Bool};
 ghost use Rattle.flt_config.specs.declared.config.Config.{Config};
+ghost use Rattle.flt_config.specs.declared.persist.Persist.{Persist};
 ghost use Rattle.flt_live.specs.Heard.{Talk};
-ghost use Rattle.flt_live.specs.Examples.{EndsAreTold, LinesAreHeard, LivesFollow, PlacesAreLeftOut, PulledComesFirst, SayNothing, WordsAsk};
+ghost use Rattle.flt_live.specs.Examples.{EndsAreTold, LinesAreHeard, LivesFollow, OneQuestionIsPlayed, PlacesAreLeftOut, PulledComesFirst, SayNothing, WordsAsk};
 
 /// What two lines come to that make no step, and what is no line.
 pub fn lines_are_heard()
@@ -32,4 +33,9 @@ pub fn pulled_comes_first()
 /// An answer without its place in a journal.
 pub fn places_are_left_out()
     ensures { PlacesAreLeftOut }
+{}
+
+/// When a life of one question is played as one of a run.
+pub fn one_question_is_played()
+    ensures { (c : Config) (state : Persist) → OneQuestionIsPlayed c state }
 {}
