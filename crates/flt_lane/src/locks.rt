@@ -1,5 +1,5 @@
 //! What the lanes of a life share, and the seats of each.
-ghost use Rattle.std.specs.Prelude.{◌≡◌};
+ghost use Rattle.std.specs.Prelude.{◌≡◌, OnErr};
 ghost use Rattle.flt_dcm.specs.Unit.{IsAdmitted};
 ghost use Rattle.flt_shared.specs.Call.{CallsInto};
 ghost use Rattle.flt_lane.specs.Views.{IsOfLock, KnownLock, known_dem};
@@ -21,7 +21,7 @@ pub trait StatusLock {
     ghost known: { Self → KnownLock };
 
     /// Makes a call when its turn comes. The answer has the kind of the reply, and the bytes of a response are written in place of what
-    /// `response` holds.
+    /// `response` holds. A call that is refused leaves `response` as it was.
     fn call_into<R: Wait>(
         &self,
         rt: &R,
@@ -31,7 +31,8 @@ pub trait StatusLock {
     ) -> Result<Answer<ReplyKind>, HistoryFull<Op>>
         requires lock { IsOfLock (known self.now) seat.old }
         requires admitted { IsAdmitted seat.old.start.config op }
-        ensures call { CallsInto seat.old seat.new op response.new result };
+        ensures call { CallsInto seat.old seat.new op response.new result }
+        ensures kept { OnErr result (response.new ≡ response.old) };
 
     /// The ticket lock, from which the seats are split, and to which they are joined.
     fn turn(&self) -> &Turn<Self::Machine>
