@@ -74,9 +74,6 @@ one_deeds (first ∷ lanes) (answer ∷ told) (suc place) steps answers within s
 
 -- ---- parts
 
-pub newest_of_one : (step : Step) (told : Told) (lanes : List (List Told)) (earlier : List Deed) → reverse (deeds_in (inl step ∷ []) (told ∷ []) lanes) ++ earlier ≡ with_deed step told earlier
-newest_of_one step told lanes earlier = newest_if (is_store_step step) step told [] earlier
-
 pub deeds_of_block : (lanes : List (List Step)) (told : List (List Told)) → length told ≡ length lanes → deeds_in (inr lanes ∷ []) [] told ≡ block_deeds lanes told
 deeds_of_block lanes told size = append-nil (block_deeds lanes (take (length lanes) told)) ∙ ap (block_deeds lanes) (take_all (length lanes) told (omega (arith, size)))
 
