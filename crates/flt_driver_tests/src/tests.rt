@@ -11,6 +11,16 @@ mod worked;
 use flt_flash::{Arm, BlockFault, Blocks, Found};
 use std::process::Abort;
 
+/// Stops the test unless this is so.
+fn holds(rt: &impl Abort, is_so: bool, what: &str) {
+    assert!(rt; is_so, "{what}");
+}
+
+/// Stops the test unless this is so of the case of this number.
+fn holds_at(rt: &impl Abort, is_so: bool, what: &str, number: usize) {
+    assert!(rt; is_so, "{what} {number}");
+}
+
 /// A step of a worked row, on the block 8 or 9, with its answer.
 #[derive(Clone, Copy)]
 pub enum Step {
@@ -184,13 +194,13 @@ fn goes<B: Blocks>(driver: &mut B, step: Step) -> bool
     }
 }
 
-/// Takes the steps of a row, of which each has to go as it says.
+/// Takes the steps of a row, of which each has to go as it says. They are numbered from 0.
 fn play<B: Blocks>(rt: &impl Abort, driver: &mut B, row: &str, steps: &[Step])
     requires first { Contains (B.state driver.old).numbers 8 }
     requires second { Contains (B.state driver.old).numbers 9 }
 {
     for (at, step) in steps.iter().enumerate() {
-        assert!(rt; goes(driver, *step), "{row}: step {at}");
+        holds_at(rt, goes(driver, *step), row, at);
     }
 }
 

@@ -10,7 +10,7 @@ mod opening;
 use super::ea::two_blocks as two_blocks_of_units;
 use super::fee::two_blocks;
 use super::job::{Held, Progress, read_both, run_job};
-use super::restart;
+use super::{holds, restart};
 use flt_ea::{Ea, Eeprom};
 use flt_fee::Fee;
 use flt_file::{

@@ -177,6 +177,11 @@ fn read_again<B: Blocks>(driver: &mut B) -> Result<(Held, Held), BlockFault>
     }
 }
 
+/// Stops the test unless this is so of a job with this arm.
+pub fn holds_of(rt: &impl Abort, is_so: bool, arm: Arm) {
+    assert!(rt; is_so, "{arm:?}");
+}
+
 /// Makes the job over a driver with this arm, and reads the blocks with the power on again, a second time where the arm made that fail:
 /// each holds what it held or what was asked. It answers whether all of the job was made, and what the blocks hold.
 pub fn run_armed<B: Blocks>(
@@ -190,6 +195,6 @@ pub fn run_armed<B: Blocks>(
     let progress = run_job(driver);
     restart(driver);
     let found = read_again(driver)?;
-    assert!(rt; progress.allows(found), "{arm:?}");
+    holds_of(rt, progress.allows(found), arm);
     Ok((progress.is_whole, found))
 }

@@ -2,7 +2,7 @@
 ghost use Rattle.flt_flash.specs.State.{CanArm};
 
 use super::*;
-use crate::tests::job::run_armed;
+use crate::tests::job::{holds_of, run_armed};
 
 /// The units of the device.
 const UNITS: u16 = 20;
@@ -22,17 +22,25 @@ fn run_case(rt: &impl Abort, alloc: Global, arm: Arm) -> Result<bool, Fail>
     Ok(is_whole)
 }
 
+/// Runs the job with this arm at a write of this number. It has all of it where the write is after its last one.
+fn is_whole_after(rt: &impl Abort, alloc: Global, arm: Arm, after: u32) -> Result<(), Fail>
+    requires { CanArm arm }
+{
+    let is_whole = run_case(rt, alloc, arm)?;
+    holds_of(rt, is_whole == (after > OPERATIONS), arm);
+    Ok(())
+}
+
+/// The patterns of a cut and of a fault.
+static PATTERNS: [Pattern; 4] = [Pattern::Nothing, Pattern::All, Pattern::Tail, Pattern::Odd];
+
 #[test]
 fn each_write_is_cut_and_fails(rt: HostRuntime) -> Result<(), Fail> {
-    for pattern in &[Pattern::Nothing, Pattern::All, Pattern::Tail, Pattern::Odd] {
+    for pattern in &PATTERNS {
         let pattern = *pattern;
         for after in 1..30 {
-            let cut = run_case(&rt, rt.alloc(), Arm::Cut { after, pattern })?;
-            let fault = run_case(&rt, rt.alloc(), Arm::Fault { after, pattern })?;
-            assert!(rt;
-                cut == (after > OPERATIONS) && fault == cut,
-                "{after} {pattern:?}"
-            );
+            is_whole_after(&rt, rt.alloc(), Arm::Cut { after, pattern }, after)?;
+            is_whole_after(&rt, rt.alloc(), Arm::Fault { after, pattern }, after)?;
         }
     }
     Ok(())

@@ -72,7 +72,12 @@ fn a_record_is_written_from_its_blank_gate_on(rt: HostRuntime) -> Result<(), Fai
     ];
     for (after, answer, first) in &cases {
         let device = third(&rt, rt.alloc(), *after, Step::Write(8, 40, 3, *answer))?;
-        assert!(rt; has_units(&device, first, &second), "write {after}");
+        holds_at(
+            &rt,
+            has_units(&device, first, &second),
+            "write",
+            *after as usize,
+        );
     }
     Ok(())
 }
@@ -89,7 +94,12 @@ fn an_invalid_block_is_given_a_gate(rt: HostRuntime) -> Result<(), Fail> {
     ];
     for (after, answer, first) in &cases {
         let device = third(&rt, rt.alloc(), *after, Step::Invalidate(8, *answer))?;
-        assert!(rt; has_units(&device, first, &second), "write {after}");
+        holds_at(
+            &rt,
+            has_units(&device, first, &second),
+            "write",
+            *after as usize,
+        );
     }
     Ok(())
 }
@@ -109,8 +119,10 @@ fn a_mute_of_a_later_sector_is_of_one_unit(rt: HostRuntime) -> Result<(), Fail> 
         times: 1,
     });
     for unit in 0..MANY {
-        assert!(rt; fails(&mut device, unit) == (unit == 1027), "unit {unit}");
+        let is_as_muted = fails(&mut device, unit) == (unit == 1027);
+        holds_at(&rt, is_as_muted, "unit", unit as usize);
     }
-    assert!(rt; !fails(&mut device, 1027) && device.armed() == 0);
+    let is_over = !fails(&mut device, 1027) && device.armed() == 0;
+    holds(&rt, is_over, "the mute is over");
     Ok(())
 }

@@ -31,7 +31,7 @@ fn play_on_blank(
 #[test]
 fn a_block_is_written_and_made_invalid(rt: HostRuntime) -> Result<(), Fail> {
     let device = play_on_blank(&rt, rt.alloc(), "written", WRITTEN)?;
-    assert!(rt; device.operations() == 20);
+    holds(&rt, device.operations() == 20, "the operations");
     Ok(())
 }
 
@@ -104,40 +104,57 @@ fn play_with(
 }
 
 /// A mount of a damaged unit of block 8.
-static FIRST_DAMAGED: [Step; 1] = [Step::Mount(Err(BlockFault::Damaged { sector: 0, page: 0 }))];
+const FIRST_DAMAGED: &[Step] = &[Step::Mount(Err(BlockFault::Damaged { sector: 0, page: 0 }))];
 
-static SECOND_DAMAGED: [Step; 1] = [Step::Mount(Err(BlockFault::Damaged { sector: 1, page: 0 }))];
+const SECOND_DAMAGED: &[Step] = &[Step::Mount(Err(BlockFault::Damaged { sector: 1, page: 0 }))];
+
+/// What is in a unit.
+#[derive(Clone, Copy)]
+enum Unit {
+    Blank,
+    Zeros,
+    // The gate of one byte of block 8 or 9, under its number.
+    Gate8,
+    Gate9,
+    // A gate whose number is 0, and a code word of no gate.
+    Numberless,
+    NoGate,
+}
+
+fn unit_of(unit: Unit) -> [u8; 32] {
+    match unit {
+        Unit::Blank => BLANK_PAGE,
+        Unit::Zeros => [0; 32],
+        Unit::Gate8 => gate(8, 3),
+        Unit::Gate9 => gate(9, 4),
+        Unit::Numberless => numberless(),
+        Unit::NoGate => seal(&[0; 16]),
+    }
+}
+
+/// The first unit and the sixth, which no driver writes so, and the mount that meets them.
+static DAMAGED: [(Unit, Unit, &str, &[Step]); 6] = [
+    (Unit::Zeros, Unit::Blank, "zeros", FIRST_DAMAGED),
+    (Unit::Gate8, Unit::Gate8, "one number", SECOND_DAMAGED),
+    (Unit::Gate8, Unit::Gate9, "another block", SECOND_DAMAGED),
+    (Unit::Numberless, Unit::Blank, "0", FIRST_DAMAGED),
+    (Unit::Gate8, Unit::Numberless, "0", SECOND_DAMAGED),
+    (Unit::Gate8, Unit::NoGate, "none", SECOND_DAMAGED),
+];
 
 #[test]
 fn units_that_no_driver_writes_are_damage(rt: HostRuntime) -> Result<(), Fail> {
-    let alloc = rt.alloc();
-    play_with(&rt, alloc, [0; 32], BLANK_PAGE, "zeros", &FIRST_DAMAGED)?;
-    play_with(
-        &rt,
-        alloc,
-        gate(8, 3),
-        gate(8, 3),
-        "one number",
-        &SECOND_DAMAGED,
-    )?;
-    play_with(
-        &rt,
-        alloc,
-        gate(8, 3),
-        gate(9, 4),
-        "another block",
-        &SECOND_DAMAGED,
-    )?;
-    play_with(&rt, alloc, numberless(), BLANK_PAGE, "0", &FIRST_DAMAGED)?;
-    play_with(&rt, alloc, gate(8, 3), numberless(), "0", &SECOND_DAMAGED)?;
-    play_with(
-        &rt,
-        alloc,
-        gate(8, 3),
-        seal(&[0; 16]),
-        "none",
-        &SECOND_DAMAGED,
-    )
+    for (first, sixth, row, steps) in &DAMAGED {
+        play_with(
+            &rt,
+            rt.alloc(),
+            unit_of(*first),
+            unit_of(*sixth),
+            row,
+            steps,
+        )?;
+    }
+    Ok(())
 }
 
 /// Block 8 can't be written any more, and block 9 can.

@@ -37,10 +37,8 @@ static COSTS: [(u64, u64); 11] = [
 fn calls_cost_what_the_records_need(rt: HostRuntime) -> Result<(), Fail> {
     for (last, (operations, erases)) in COSTS.iter().enumerate() {
         let flash = play_on_blank(&rt, rt.alloc(), "costs", &CALLS[..last + 1])?;
-        assert!(rt;
-            flash.operations() == *operations && is_worn(&flash, 1, *erases),
-            "call {last}"
-        );
+        let costs_so = flash.operations() == *operations && is_worn(&flash, 1, *erases);
+        holds_at(&rt, costs_so, "call", last);
     }
     Ok(())
 }

@@ -7,6 +7,7 @@ mod damaged;
 mod torn;
 mod worked;
 
+use super::{holds, holds_at};
 use flt_code::{Word, get_word, is_spoiled, put_word, seal, unseal};
 use flt_flash::{Arm, BLANK_PAGE, Bench, Flash, FlashFailed, FlashMem, Pattern};
 use flt_pages::*;
@@ -33,23 +34,33 @@ fn assert_blank(rt: &impl Abort, flash: &FlashMem, sector: u8, page: u16)
     );
 }
 
+/// The word of a page, or none.
+fn word_of(page: &[u8; 32]) -> Option<Word> {
+    get_word(&unseal(page)?)
+}
+
+/// Whether the start gate has no word with this bit changed.
+fn is_no_word(bit: u16) -> bool
+    requires { bit < 256 }
+{
+    let mut changed = START;
+    changed[bit as usize / 8] ^= 1 << (bit % 8);
+    unseal(&changed).is_none()
+}
+
 #[test]
-fn a_start_gate_is_sealed(rt: HostRuntime) -> Result<(), Fail> {
+fn a_start_gate_is_sealed(rt: HostRuntime) {
     let word = Word::Start {
         sequence: 1,
         pages: 512,
     };
     let page = seal(&put_word(&word));
-    assert!(rt; page == START && !is_spoiled(&page));
-    let code = unseal(&page).ok_or("no code word")?;
-    assert!(rt; get_word(&code) == Some(word));
-    assert!(rt; unseal(&[255; 32]).is_none());
-    for bit in 0..256 {
-        let mut changed = START;
-        changed[bit / 8] ^= 1 << (bit % 8);
-        assert!(rt; unseal(&changed).is_none(), "bit {bit}");
+    holds(&rt, page == START && !is_spoiled(&page), "the start gate");
+    holds(&rt, word_of(&page) == Some(word), "its word");
+    holds(&rt, unseal(&[255; 32]).is_none(), "a blank page");
+    for bit in 0..256u16 {
+        holds_at(&rt, is_no_word(bit), "bit", bit as usize);
     }
-    Ok(())
 }
 
 /// A flash of two sectors of 64 blank pages, of which the first is begun under number 1.
@@ -76,7 +87,12 @@ fn assert_item(
     ensures pages { (flash_state flash.new).pages ≡ 64 }
     ensures boots { (flash_state flash.new).bench.boots_left ≡ (flash_state flash.old).bench.boots_left }
 {
-    assert!(rt; item(flash, 0, 64, page, numbers) == wanted, "page {page}");
+    holds_at(
+        rt,
+        item(flash, 0, 64, page, numbers) == wanted,
+        "page",
+        page as usize,
+    );
 }
 
 /// Stops the test unless the gates of sector 0 give this number.
@@ -84,7 +100,7 @@ fn assert_gates(rt: &impl Abort, flash: &mut FlashMem, wanted: Option<u32>)
     requires { (flash_state flash.old).pages ≡ 64 }
     ensures { (flash_state flash.new).pages ≡ 64 }
 {
-    assert!(rt; gates(flash, 0, 64) == Ok(wanted), "{wanted:?}");
+    holds(rt, gates(flash, 0, 64) == Ok(wanted), "the gates");
 }
 
 /// Puts the head of one byte of block 8 on page 2.
@@ -150,15 +166,29 @@ fn make_valid(rt: &impl Abort, flash: &mut FlashMem) -> Result<(), PageFault>
     Ok(())
 }
 
+/// Puts the record, makes the sector valid, and looks at the bytes and at the wear.
+fn keep_whole(rt: &impl Abort, flash: &mut FlashMem, numbers: &Numbers) -> Result<(), PageFault>
+    requires { (flash_state flash.old).pages ≡ 64 }
+{
+    keep(rt, flash, numbers)?;
+    make_valid(rt, flash)?;
+    let has_byte = flash.page(0, 3)[0] == 0x07 && flash.page(0, 3)[31] == 0xff;
+    holds(rt, has_byte, "the bytes");
+    holds(rt, flash.wear(0) == 1 && flash.wear(1) == 0, "the wear");
+    Ok(())
+}
+
 #[test]
 fn a_record_is_kept(rt: HostRuntime) -> Result<(), Fail> {
     let numbers = eight(rt.alloc())?;
     let mut flash = begun(rt.alloc())?;
-    keep(&rt, &mut flash, &numbers)?;
-    make_valid(&rt, &mut flash)?;
-    assert!(rt; flash.page(0, 3)[0] == 0x07 && flash.page(0, 3)[31] == 0xff);
-    assert!(rt; flash.wear(0) == 1 && flash.wear(1) == 0);
+    keep_whole(&rt, &mut flash, &numbers)?;
     Ok(())
+}
+
+/// Whether the power came back once, after four operations, and no arm is left.
+fn is_up(flash: &FlashMem) -> bool {
+    flash.boots_left() == 1 && flash.armed() == 0 && flash.operations() == 4
 }
 
 /// Cuts the program of a head, and looks at it before the power comes back and after that.
@@ -171,13 +201,14 @@ fn tear(rt: &impl Abort, flash: &mut FlashMem, numbers: &Numbers)
         after: 1,
         pattern: Pattern::Tail,
     });
-    assert!(rt; flash.armed() == 1);
-    assert!(rt; put_head(rt, flash).is_err());
+    holds(rt, flash.armed() == 1, "one arm");
+    holds(rt, put_head(rt, flash).is_err(), "the head that is cut");
     assert_item(rt, flash, numbers, 2, Err(PageFault::Flash));
-    assert!(rt; flash.boots_left() == 2);
+    holds(rt, flash.boots_left() == 2, "two boots are left");
     flash.power_up();
-    assert!(rt; flash.boots_left() == 1 && flash.armed() == 0 && flash.operations() == 4);
-    assert!(rt; flash.boot_page(0, 0, 0) == flash.page(0, 0));
+    holds(rt, is_up(flash), "the flash with power");
+    let is_booted = flash.boot_page(0, 0, 0) == flash.page(0, 0);
+    holds(rt, is_booted, "the page at the boot");
     assert_item(rt, flash, numbers, 2, Ok(Item::Torn));
 }
 

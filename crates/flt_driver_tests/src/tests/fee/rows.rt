@@ -41,7 +41,7 @@ static ROWS: [(&str, &[Step], (u64, u64)); 3] = [
 fn rows_go_as_written(rt: HostRuntime) -> Result<(), Fail> {
     for (row, steps, (first, second)) in &ROWS {
         let flash = play_on_blank(&rt, rt.alloc(), row, steps)?;
-        assert!(rt; is_worn(&flash, *first, *second), "{row}");
+        holds(&rt, is_worn(&flash, *first, *second), row);
     }
     Ok(())
 }
@@ -50,9 +50,11 @@ fn rows_go_as_written(rt: HostRuntime) -> Result<(), Fail> {
 fn twenty_records_fill_the_log(rt: HostRuntime) -> Result<(), Fail> {
     let flash = play_on_blank(&rt, rt.alloc(), "twenty records", &[Step::Fill(20)])?;
     let last = Word::Gate { block: 8, page: 59 };
-    assert!(rt; word_at(&flash, 0, 61) == Some(last));
-    assert!(rt; is_blank(&flash, 0, 62) && is_blank(&flash, 0, 63));
-    assert!(rt; is_worn(&flash, 1, 0));
+    let is_full = word_at(&flash, 0, 61) == Some(last);
+    holds(&rt, is_full, "the last gate");
+    let ends_there = is_blank(&flash, 0, 62) && is_blank(&flash, 0, 63);
+    holds(&rt, ends_there, "the pages after it");
+    holds(&rt, is_worn(&flash, 1, 0), "the wear");
     Ok(())
 }
 
@@ -159,8 +161,9 @@ static MET: [Step; 4] = [
 fn a_damaged_log_is_told_and_left(rt: HostRuntime) -> Result<(), Fail> {
     let flash = FlashMem::of(rt.alloc(), damaged_image(rt.alloc())?, 2)?;
     let flash = play_on(&rt, rt.alloc(), flash, "damaged", &MET)?;
-    assert!(rt; is_worn(&flash, 0, 0));
-    assert!(rt; word_at(&flash, 0, 2) == Some(GATE) && is_blank(&flash, 0, 3));
+    holds(&rt, is_worn(&flash, 0, 0), "the wear");
+    let is_left = word_at(&flash, 0, 2) == Some(GATE) && is_blank(&flash, 0, 3);
+    holds(&rt, is_left, "the log");
     Ok(())
 }
 
@@ -181,8 +184,8 @@ fn is_record(flash: &FlashMem, block: u16, page: u16) -> bool {
 #[test]
 fn a_switch_copies_in_ascending_order(rt: HostRuntime) -> Result<(), Fail> {
     let flash = play_on_blank(&rt, rt.alloc(), "switched", &SWITCHED)?;
-    assert!(rt; is_record(&flash, 8, 2));
-    assert!(rt; is_record(&flash, 9, 5));
-    assert!(rt; is_record(&flash, 8, 8));
+    holds(&rt, is_record(&flash, 8, 2), "the first record");
+    holds(&rt, is_record(&flash, 9, 5), "the second record");
+    holds(&rt, is_record(&flash, 8, 8), "the third record");
     Ok(())
 }

@@ -1,4 +1,5 @@
 //! What the definitions say of images that were damaged, one page at a time.
+use super::holds_at;
 use super::worked::{Image, eight, image, piece, prepared, word};
 use flt_flash::BLANK_PAGE;
 use flt_pages::{Item, PageFault, blank_from, gates, item};
@@ -89,7 +90,8 @@ static GATES: [(usize, Put, Result<Option<u32>, PageFault>); 13] = [
 fn gates_are_told(rt: HostRuntime) -> Result<(), Fail> {
     for (page, put, want) in &GATES {
         let mut flash = prepared(rt.alloc(), with_page(*page, bytes_of(*put)))?;
-        assert!(rt; gates(&mut flash, 0, 8) == *want, "page {page}");
+        let is_told = gates(&mut flash, 0, 8) == *want;
+        holds_at(&rt, is_told, "page", *page);
     }
     Ok(())
 }
@@ -143,10 +145,8 @@ fn items_are_told(rt: HostRuntime) -> Result<(), Fail> {
     let numbers = eight(rt.alloc())?;
     for (page, put, at, want) in &ITEMS {
         let mut flash = prepared(rt.alloc(), with_page(*page, bytes_of(*put)))?;
-        assert!(rt;
-            *at <= 8 && item(&mut flash, 0, 8, *at, &numbers) == *want,
-            "page {page}"
-        );
+        let is_told = *at <= 8 && item(&mut flash, 0, 8, *at, &numbers) == *want;
+        holds_at(&rt, is_told, "page", *page);
     }
     Ok(())
 }
@@ -163,10 +163,8 @@ static WRITTEN: [(usize, u16, Result<(), PageFault>); 4] = [
 fn written_pages_are_told(rt: HostRuntime) -> Result<(), Fail> {
     for (page, from, want) in &WRITTEN {
         let mut flash = prepared(rt.alloc(), with_page(*page, piece(3)))?;
-        assert!(rt;
-            *from <= 8 && blank_from(&mut flash, 0, 8, *from) == *want,
-            "page {page}"
-        );
+        let is_told = *from <= 8 && blank_from(&mut flash, 0, 8, *from) == *want;
+        holds_at(&rt, is_told, "page", *page);
     }
     Ok(())
 }

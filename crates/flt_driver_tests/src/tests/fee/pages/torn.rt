@@ -3,8 +3,8 @@ ghost use Rattle.std.specs.Prelude.{◌≡◌, ◌<◌};
 ghost use Rattle.flt_flash.specs.Memory.{flash_state};
 ghost use Rattle.flt_flash.specs.State.{CanArm};
 
-use super::assert_blank;
 use super::worked::{Image, eight, image, piece, prepared, record, word};
+use super::{assert_blank, holds_at};
 use flt_flash::{Arm, BLANK_PAGE, Bench, Flash, FlashFailed, FlashMem, Pattern};
 use flt_pages::{
     Item, Numbers, activate, append_gate, append_head, append_piece, begin, blank_from, gates, item,
@@ -164,25 +164,31 @@ fn asked_of(call: Call, is_erase: bool, start: &Image) -> Image {
     }
 }
 
-/// Each page is what the pattern leaves of an operation, which is an erase of the second sector or a program.
-fn compare(
-    rt: &impl Abort,
-    flash: &FlashMem,
-    start: &Image,
-    asked: &Image,
-    pattern: Pattern,
-    is_erase: bool,
-)
+/// The word of a pattern.
+fn name_of(pattern: Pattern) -> &'static str {
+    match pattern {
+        Pattern::Nothing => "none",
+        Pattern::All => "all",
+        Pattern::Tail => "tail",
+        Pattern::Odd => "odd",
+    }
+}
+
+/// Each page is what the pattern leaves of an operation of a call, which is an erase of the second sector or a program. The pages of sector 1
+/// are numbered from 8.
+fn compare(rt: &impl Abort, flash: &FlashMem, call: Call, operation: u32, pattern: Pattern)
     requires { (flash_state flash.now).pages ≡ 8 }
 {
+    let is_erase = call == Call::Begin && operation == 1;
+    let start = start_of(operation);
+    let asked = asked_of(call, is_erase, &start);
     for sector in 0..2 {
         for page in 0..8 {
             let place = sector as usize * 8 + page as usize;
             let tail = tail_from(is_erase, page);
-            assert!(rt;
-                *flash.page(sector, page) == torn(pattern, &start[place], &asked[place], tail),
-                "{pattern:?} page {page} of sector {sector}"
-            );
+            let is_torn = *flash.page(sector, page)
+                == torn(pattern, &start[place], &asked[place], tail);
+            holds_at(rt, is_torn, name_of(pattern), place);
         }
     }
 }
@@ -196,6 +202,30 @@ fn is_left(flash: &mut FlashMem, is_cut: bool, only_reads: bool) -> bool
     let mut out = [0; 32];
     (flash.armed() == 1) == only_reads
         && flash.read_page(0, 0, &mut out).is_err() == (is_cut && !only_reads)
+}
+
+/// Stops the test unless this is so of a call.
+fn holds_of(rt: &impl Abort, is_so: bool, call: Call, pattern: Pattern) {
+    assert!(rt; is_so, "{call:?} {pattern:?}");
+}
+
+/// A call fails unless it only reads, and leaves the arm and the power so.
+fn fails(
+    rt: &impl Abort,
+    flash: &mut FlashMem,
+    numbers: &Numbers,
+    call: Call,
+    pattern: Pattern,
+    is_cut: bool,
+)
+    requires { (flash_state flash.old).pages ≡ 8 }
+    ensures pages { (flash_state flash.new).pages ≡ 8 }
+    ensures boots { (flash_state flash.new).bench.boots_left ≡ (flash_state flash.old).bench.boots_left }
+{
+    let only_reads = matches!(call, Call::Gates | Call::Item | Call::BlankFrom);
+    let is_ok = run(rt, flash, numbers, call).is_ok();
+    let is_so = is_ok == only_reads && is_left(flash, is_cut, only_reads);
+    holds_of(rt, is_so, call, pattern);
 }
 
 /// One operation of a call is cut, or fails by a fault.
@@ -212,21 +242,11 @@ fn try_case(
     let numbers = eight(alloc)?;
     let mut flash = prepared(alloc, image())?;
     flash.arm(arm_at(operation, pattern, is_cut));
-    let only_reads = matches!(call, Call::Gates | Call::Item | Call::BlankFrom);
-    let is_ok = run(rt, &mut flash, &numbers, call).is_ok();
-    assert!(rt;
-        is_ok == only_reads && is_left(&mut flash, is_cut, only_reads),
-        "{call:?} {pattern:?}"
-    );
+    fails(rt, &mut flash, &numbers, call, pattern, is_cut);
     flash.power_up();
-    let is_erase = call == Call::Begin && operation == 1;
-    let start = start_of(operation);
-    let asked = asked_of(call, is_erase, &start);
-    compare(rt, &flash, &start, &asked, pattern, is_erase);
-    assert!(rt;
-        is_told(&mut flash, &numbers, call, pattern),
-        "a look behind {call:?} {pattern:?}"
-    );
+    compare(rt, &flash, call, operation, pattern);
+    let is_told = is_told(&mut flash, &numbers, call, pattern);
+    holds_of(rt, is_told, call, pattern);
     Ok(())
 }
 
