@@ -53,6 +53,16 @@ const FAILED: u8 = 0x2F;
 
 const PASSED: u8 = 0x2E;
 
+/// Stops the test unless this is so.
+fn holds(rt: &impl Abort, is_so: bool, what: &str) {
+    assert!(rt; is_so, "{what}");
+}
+
+/// Stops the test unless this is so of the case of this number.
+fn holds_at(rt: &impl Abort, is_so: bool, what: &str, number: usize) {
+    assert!(rt; is_so, "{what} {number}");
+}
+
 /// A configuration of this many entries, application blocks and events.
 fn configured(rt: &impl Abort, memory: u8, blocks: u8, count: u8) -> ValidConfig {
     let mut events = ArrayVec::new();
@@ -254,7 +264,7 @@ fn get<B: Blocks + Drop>(
     assert!(rt; config.config().blocks > 0);
     let mut out = ArrayVec::new();
     let found = store.get_block(0, &mut out)?;
-    assert!(rt; found == (out.len() == 1));
+    holds(rt, found == (out.len() == 1), "the length of block 0");
     Ok(out.first().copied())
 }
 

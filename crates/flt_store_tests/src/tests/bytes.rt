@@ -4,6 +4,7 @@ ghost use Rattle.flt_store_model.specs.Form.{HasNoLater};
 ghost use Rattle.flt_store_model.specs.Holding.{last_number};
 ghost use Rattle.flt_store_model.specs.Successor.{number_in};
 
+use super::{holds, holds_at};
 use arrayvec::ArrayVec;
 use flt_config::{
     Config, DidUse, EntryState, EventCfg, EventState, Frame, Persist, ValidConfig, check, fits,
@@ -205,12 +206,15 @@ static BLOCKS: [u16; 4] = [3, 4, 8, 9];
 fn blocks_have_the_bytes_written_by_hand(rt: HostRuntime) {
     let valid = valid(&rt);
     let state = state(None);
-    assert!(&rt; fits(&valid, &state));
+    holds(&rt, fits(&valid, &state), "the state fits");
     for id in &BLOCKS {
-        assert!(&rt; is_put(&valid, &state, *id, bytes_of(*id)), "block {id}");
+        let has_its_bytes = is_put(&valid, &state, *id, bytes_of(*id));
+        holds_at(&rt, has_its_bytes, "block", *id as usize);
     }
-    assert!(&rt; is_put(&valid, &initial(&valid), 3, &NO_SUMMARY));
-    assert!(&rt; &used_ids(&valid)[..] == &BLOCKS[..]);
+    let is_first = is_put(&valid, &initial(&valid), 3, &NO_SUMMARY);
+    holds(&rt, is_first, "the first summary");
+    let are_used = &used_ids(&valid)[..] == &BLOCKS[..];
+    holds(&rt, are_used, "the blocks in use");
 }
 
 /// Whether the state has one entry, of no event.
@@ -223,10 +227,11 @@ fn blocks_taken_in_order_give_the_state(rt: HostRuntime) {
     let valid = valid(&rt);
     let mut into = initial(&valid);
     for id in &BLOCKS {
-        assert!(&rt; get(&valid, *id, bytes_of(*id), &mut into), "block {id}");
-        assert!(&rt; *id != 3 || has_an_unknown_entry(&into));
+        let is_taken = get(&valid, *id, bytes_of(*id), &mut into)
+            && (*id != 3 || has_an_unknown_entry(&into));
+        holds_at(&rt, is_taken, "block", *id as usize);
     }
-    assert!(&rt; into == state(None));
+    holds(&rt, into == state(None), "the state");
 }
 
 /// Whether these bytes of a block are refused, and leave the state of one entry, or of two, as it was.
@@ -263,12 +268,12 @@ static ODD_BYTES: [(u16, usize, u8); 21] = [
 #[test]
 fn bytes_of_no_block_that_fits_are_refused(rt: HostRuntime) {
     let valid = valid(&rt);
+    let mut row = 0usize;
     for (id, at, byte) in &ODD_BYTES {
         let bytes = changed(bytes_of(*id), *at, *byte);
-        assert!(&rt;
-            is_refused(&valid, None, *id, &bytes),
-            "{byte} at {at} of block {id}"
-        );
+        let is_refused = is_refused(&valid, None, *id, &bytes);
+        holds_at(&rt, is_refused, "odd byte", row);
+        row = row.wrapping_add(1);
     }
 }
 
@@ -277,14 +282,19 @@ fn is_taken(config: &ValidConfig, id: u16, bytes: &[u8]) -> bool {
     get(config, id, bytes, &mut state(Some(1)))
 }
 
+/// Whether an entry is refused in the place of the second one and taken in that of the first.
+fn is_taken_once(config: &ValidConfig) -> bool {
+    let mut after = state(Some(1));
+    !get(config, 9, &ENTRY, &mut after) && get(config, 8, &ENTRY, &mut after)
+}
+
 #[test]
 fn counts_and_second_entries_are_refused(rt: HostRuntime) {
     let valid = valid(&rt);
     let clean = changed(&changed(&STATES, 2, 1), 3, 0xFF);
-    assert!(&rt; fits(&valid, &state(Some(1))));
-    assert!(&rt; !is_taken(&valid, 4, &clean));
-    let mut after = state(Some(1));
-    assert!(&rt; !get(&valid, 9, &ENTRY, &mut after) && get(&valid, 8, &ENTRY, &mut after));
+    holds(&rt, fits(&valid, &state(Some(1))), "the state fits");
+    holds(&rt, !is_taken(&valid, 4, &clean), "the clean cycles");
+    holds(&rt, is_taken_once(&valid), "the second entry");
 }
 
 /// Whether a block of the state of two entries is taken, and neither with a byte less nor with a byte more.
@@ -303,7 +313,8 @@ fn takes_one_length(config: &ValidConfig, id: u16) -> bool {
 fn lengths_are_refused(rt: HostRuntime) {
     let valid = valid(&rt);
     for id in &BLOCKS {
-        assert!(&rt; takes_one_length(&valid, *id), "block {id}");
+        let takes_it = takes_one_length(&valid, *id);
+        holds_at(&rt, takes_it, "block", *id as usize);
     }
 }
 
@@ -354,13 +365,16 @@ fn after(
 fn a_commit_has_its_successor(rt: HostRuntime) {
     let valid = valid(&rt);
     let commit = get_commit(&valid, &COMMIT);
-    assert!(&rt; is_of(commit, 0x01020304));
+    holds(&rt, is_of(commit, 0x01020304), "the commit");
     let blocks = blocks_of(&valid, true);
-    assert!(&rt; after(&valid, None, &blocks, &blocks) == Some((1, 0x00)));
+    let first = after(&valid, None, &blocks, &blocks) == Some((1, 0x00));
+    holds(&rt, first, "the first commit");
     let unknown = StateBlocks::unknown();
-    assert!(&rt; after(&valid, commit, &unknown, &blocks) == Some((0x01020305, 0x41)));
+    let next = after(&valid, commit, &unknown, &blocks) == Some((0x01020305, 0x41));
+    holds(&rt, next, "the next commit of unknown blocks");
     let before = blocks_of(&valid, false);
-    assert!(&rt; after(&valid, commit, &before, &blocks) == Some((0x01020305, 0x23)));
+    let next = after(&valid, commit, &before, &blocks) == Some((0x01020305, 0x23));
+    holds(&rt, next, "the next commit of known blocks");
 }
 
 /// The byte of a commit that is another one.
@@ -402,22 +416,31 @@ fn is_no_commit(config: &ValidConfig, bytes: &[u8]) -> bool {
     get_commit(config, bytes).is_none()
 }
 
-#[test]
-fn commits_are_read_of_their_own_configuration(rt: HostRuntime) {
-    let valid = valid(&rt);
-    assert!(&rt; are_no_commits(&valid, &COMMIT, &ODD_COMMITS));
-    let first = Commit {
-        generation: 0,
-        index: [0; INDICES],
-    };
-    assert!(&rt; is_no_commit(&valid, &put_commit(&first)));
-    assert!(&rt; is_no_commit(&valid, &[2, 0, 0, 0, 0, 0x22, 0, 0, 0, 0]));
-    assert!(&rt; is_no_commit(&valid, &COMMIT[..9]));
+/// The commit with a byte more.
+fn longer() -> BlockBytes {
     let mut longer = changed(&COMMIT, 0, 2);
     if !longer.is_full() {
         longer.push(0xFF);
     }
-    assert!(&rt; is_no_commit(&valid, &longer));
+    longer
+}
+
+#[test]
+fn commits_are_read_of_their_own_configuration(rt: HostRuntime) {
+    let valid = valid(&rt);
+    let are_refused = are_no_commits(&valid, &COMMIT, &ODD_COMMITS);
+    holds(&rt, are_refused, "commits with an odd byte");
+    let first = Commit {
+        generation: 0,
+        index: [0; INDICES],
+    };
+    let is_refused = is_no_commit(&valid, &put_commit(&first));
+    holds(&rt, is_refused, "a commit of generation 0");
+    let is_refused = is_no_commit(&valid, &[2, 0, 0, 0, 0, 0x22, 0, 0, 0, 0]);
+    holds(&rt, is_refused, "the bytes of one");
+    let is_refused = is_no_commit(&valid, &COMMIT[..9]);
+    holds(&rt, is_refused, "a byte less");
+    holds(&rt, is_no_commit(&valid, &longer()), "a byte more");
 }
 
 /// The commit of either version.
@@ -435,16 +458,34 @@ fn commit() -> Commit
     }
 }
 
+/// Whether the commit has its bytes in both versions.
+fn are_put(commit: &Commit) -> bool
+    requires { HasNoLater commit.now }
+{
+    put_commit_1(commit) == OLD_COMMIT && put_commit(commit) == COMMIT
+}
+
+/// Whether these are the bytes of this commit.
+fn is_commit(config: &ValidConfig, bytes: &[u8], commit: &Commit) -> bool {
+    match get_commit(config, bytes) {
+        None => false,
+        Some(found) => found == *commit,
+    }
+}
+
 #[test]
 fn commits_of_both_versions_are_read(rt: HostRuntime) {
     let commit = commit();
-    assert!(&rt; put_commit_1(&commit) == OLD_COMMIT);
-    assert!(&rt; put_commit(&commit) == COMMIT);
+    holds(&rt, are_put(&commit), "the bytes of both versions");
     let valid = valid(&rt);
-    assert!(&rt; get_commit(&valid, &OLD_COMMIT) == Some(commit));
-    assert!(&rt; get_commit(&valid, &COMMIT) == Some(commit));
-    assert!(&rt; are_no_commits(&valid, &OLD_COMMIT, &ODD_OLD_COMMITS));
-    assert!(&rt; is_no_commit(&valid, &OLD_COMMIT[..25]));
+    let is_read = is_commit(&valid, &OLD_COMMIT, &commit);
+    holds(&rt, is_read, "the commit of version 1");
+    let is_read = is_commit(&valid, &COMMIT, &commit);
+    holds(&rt, is_read, "the commit of version 2");
+    let are_refused = are_no_commits(&valid, &OLD_COMMIT, &ODD_OLD_COMMITS);
+    holds(&rt, are_refused, "commits with an odd byte");
+    let is_refused = is_no_commit(&valid, &OLD_COMMIT[..25]);
+    holds(&rt, is_refused, "a byte less");
 }
 
 /// A configuration of 256 events, which uses each of the blocks 24 to 35.
@@ -494,7 +535,8 @@ fn are_of_later(config: &ValidConfig, bytes: &[u8; 10], first: u16, last: u16) -
 fn later_blocks_have_their_own_bits(rt: HostRuntime) {
     let valid = of_many(&rt);
     for (bytes, first, last) in &LATER_COMMITS {
-        assert!(&rt; are_of_later(&valid, bytes, *first, *last), "block {first}");
+        let are_so = are_of_later(&valid, bytes, *first, *last);
+        holds_at(&rt, are_so, "block", *first as usize);
     }
 }
 
@@ -509,22 +551,33 @@ fn is_no_mark(bytes: &[u8]) -> bool {
 #[test]
 fn marks_are_read(rt: HostRuntime) {
     let mark = mark_of(&valid(&rt));
-    assert!(&rt; put_mark(&mark) == MARK && put_mark_1(&mark) == OLD_MARK);
-    assert!(&rt; get_mark(&MARK) == Some(mark) && get_mark(&OLD_MARK) == Some(mark));
+    let are_put = put_mark(&mark) == MARK && put_mark_1(&mark) == OLD_MARK;
+    holds(&rt, are_put, "the bytes of both versions");
+    let are_read = get_mark(&MARK) == Some(mark) && get_mark(&OLD_MARK) == Some(mark);
+    holds(&rt, are_read, "the mark of both versions");
     let another = get_mark(&changed(&MARK, 2, 3));
-    assert!(&rt; another.is_some() && another != Some(mark));
+    let is_another = another.is_some() && another != Some(mark);
+    holds(&rt, is_another, "another mark");
+    let mut row = 0usize;
     for (at, byte) in &ODD_MARKS {
-        assert!(&rt; is_no_mark(&changed(&MARK, *at, *byte)), "{byte} at {at}");
+        let is_refused = is_no_mark(&changed(&MARK, *at, *byte));
+        holds_at(&rt, is_refused, "odd mark", row);
+        row = row.wrapping_add(1);
     }
-    assert!(&rt; is_no_mark(&MARK[..7]) && is_no_mark(&OLD_COMMIT[..9]));
+    let are_refused = is_no_mark(&MARK[..7]) && is_no_mark(&OLD_COMMIT[..9]);
+    holds(&rt, are_refused, "another length");
+}
+
+/// Whether numbers begin and end as those of the image do.
+fn are_of_image(numbers: &[u16]) -> bool {
+    numbers.starts_with(&[8, 16, 17, 24, 25, 32]) && numbers.last().copied() == Some(824)
 }
 
 #[test]
 fn drivers_have_a_hundred_and_nine_numbers(rt: HostRuntime) -> Result<(), Fail> {
     let numbers = fee_numbers(rt.alloc())?;
-    assert!(rt; numbers.len() == 109);
-    assert!(rt; numbers.starts_with(&[8, 16, 17, 24, 25, 32]));
-    assert!(rt; numbers.last().copied() == Some(824));
+    holds(&rt, numbers.len() == 109, "how many");
+    holds(&rt, are_of_image(&numbers), "the first and the last");
     Ok(())
 }
 
@@ -540,11 +593,15 @@ static LAST_BLOCK: BlockCfg = BlockCfg {
     length: 32,
 };
 
+/// Whether blocks begin and end as those of the table do.
+fn are_of_table(blocks: &[BlockCfg]) -> bool {
+    blocks.first() == Some(&FIRST_BLOCK) && blocks.last() == Some(&LAST_BLOCK)
+}
+
 #[test]
 fn the_table_has_seventy_five_blocks(rt: HostRuntime) -> Result<(), Fail> {
     let table = block_table(rt.alloc())?;
-    assert!(rt; table.len() == 75);
-    assert!(rt; table.first() == Some(&FIRST_BLOCK));
-    assert!(rt; table.last() == Some(&LAST_BLOCK));
+    holds(&rt, table.len() == 75, "how many");
+    holds(&rt, are_of_table(&table), "the first and the last");
     Ok(())
 }

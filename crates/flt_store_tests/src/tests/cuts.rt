@@ -135,7 +135,8 @@ fn starts<B: Blocks + Drop>(
     match start(store, config) {
         Err(_) => false,
         Ok((number, state)) => {
-            assert!(rt; number == asked.number && state == asked.state());
+            let is_asked = number == asked.number && state == asked.state();
+            holds(rt, is_asked, "the state of a start-up");
             true
         }
     }
@@ -159,7 +160,7 @@ fn make<B: Blocks + Drop>(
         Call::Save(_) => match save(rt, store, config, &asked.state()) {
             Err(_) => false,
             Ok(number) => {
-                assert!(rt; number == asked.number);
+                holds(rt, number == asked.number, "the number of a save");
                 true
             }
         },
@@ -212,8 +213,13 @@ pub(super) fn read_told<B: Blocks + Drop>(
         status,
         byte,
     };
-    assert!(rt; state == told.state());
+    holds(rt, state == told.state(), "the state");
     Ok(told)
+}
+
+/// Stops the test unless this is so of what is found after an arm.
+fn holds_of(rt: &impl Abort, is_so: bool, made: Arm, found: Told) {
+    assert!(rt; is_so, "{made:?} {found:?}");
 }
 
 /// Runs a job over a device that says this, with this arm, and starts up with the power on again. It returns whether each call of the job
@@ -234,7 +240,7 @@ fn run_case<B: Blocks + Drop>(
     let stands = store.armed() > 0;
     power_up(&mut store);
     let found = read_told(rt, &mut store, config)?;
-    assert!(rt; found == before || found == asked, "{made:?} {found:?}");
+    holds_of(rt, found == before || found == asked, made, found);
     Ok((done, stands))
 }
 

@@ -22,10 +22,12 @@ fn write_first<B: Blocks>(rt: &impl Abort, driver: &mut B) -> Result<(), BlockFa
     ensures { (B.state driver.new).numbers ≡ (B.state driver.old).numbers }
 {
     driver.mount()?;
-    assert!(rt; !driver.spent());
-    assert!(rt; finds(driver, Found::Missing, &[0xee]));
+    holds(rt, !driver.spent(), "numbers are left");
+    let is_missing = finds(driver, Found::Missing, &[0xee]);
+    holds(rt, is_missing, "a block that was not written");
     driver.write(8, &[1, 2])?;
-    assert!(rt; finds(driver, Found::Bytes(2), &[1, 2, 0xee]));
+    let is_found = finds(driver, Found::Bytes(2), &[1, 2, 0xee]);
+    holds(rt, is_found, "a block that was written");
     Ok(())
 }
 
@@ -36,9 +38,11 @@ fn drive<B: Blocks>(rt: &impl Abort, driver: &mut B) -> Result<(), BlockFault>
     write_first(rt, driver)?;
     assert!(rt; driver.boots_left() == 1);
     driver.power_up();
-    assert!(rt; finds(driver, Found::Bytes(2), &[1, 2, 0xee]));
+    let is_found = finds(driver, Found::Bytes(2), &[1, 2, 0xee]);
+    holds(rt, is_found, "a block after the power");
     driver.invalidate(8)?;
-    assert!(rt; finds(driver, Found::Invalid, &[0xee]));
+    let is_invalid = finds(driver, Found::Invalid, &[0xee]);
+    holds(rt, is_invalid, "a block that was made invalid");
     Ok(())
 }
 

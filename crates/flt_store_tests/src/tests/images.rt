@@ -139,8 +139,9 @@ fn told_of(rt: &impl Abort, alloc: Global, row: Row) -> Result<Result<u32, Start
     match start(&mut store, &config) {
         Err(fault) => Ok(Err(fault)),
         Ok((number, state)) => {
-            assert!(rt; number != 0 || state == initial(&config));
-            assert!(rt; number == 0 || state == failed());
+            let is_first = number != 0 || state == initial(&config);
+            holds(rt, is_first, "the first state");
+            holds(rt, number == 0 || state == failed(), "the saved state");
             Ok(Ok(number))
         }
     }

@@ -54,13 +54,18 @@ fn blocks_are_kept_by_their_kind(rt: HostRuntime) -> Result<(), Fail> {
     driver.write(17, &[7, 8])?;
     let mut nvm = Nvm::make(driver, Vec::from_array(rt.alloc(), TABLE)?);
     nvm.start()?;
-    assert!(rt; reads(&mut nvm, 2, 0, found(2, 2), &[7, 8, 0xee]));
-    assert!(rt; reads_copy(&mut nvm, 2, 1, Got::Missing));
+    let is_found = reads(&mut nvm, 2, 0, found(2, 2), &[7, 8, 0xee]);
+    holds(&rt, is_found, "the second copy of block 2");
+    let is_missing = reads_copy(&mut nvm, 2, 1, Got::Missing);
+    holds(&rt, is_missing, "its first copy");
     nvm.write(1, 0, &[1])?;
     nvm.write(3, 1, &[3, 3, 3])?;
-    assert!(rt; reads(&mut nvm, 1, 0, found(1, 1), &[1, 0xee]));
-    assert!(rt; reads(&mut nvm, 3, 0, Got::Missing, &[0xee]));
-    assert!(rt; reads(&mut nvm, 3, 1, found(3, 1), &[3, 3, 3, 0xee]));
+    let is_found = reads(&mut nvm, 1, 0, found(1, 1), &[1, 0xee]);
+    holds(&rt, is_found, "block 1");
+    let is_missing = reads(&mut nvm, 3, 0, Got::Missing, &[0xee]);
+    holds(&rt, is_missing, "the first of block 3");
+    let is_found = reads(&mut nvm, 3, 1, found(3, 1), &[3, 3, 3, 0xee]);
+    holds(&rt, is_found, "the second of block 3");
     Ok(())
 }
 
@@ -72,9 +77,11 @@ fn copies_outlive_the_power(rt: HostRuntime) -> Result<(), Fail> {
     assert!(rt; !nvm.spent() && (nvm.boots_left(), nvm.armed()) == (1, 0));
     nvm.power_up();
     nvm.write(2, 0, &[9])?;
-    assert!(rt; reads_copy(&mut nvm, 2, 2, found(1, 2)));
+    let is_found = reads_copy(&mut nvm, 2, 2, found(1, 2));
+    holds(&rt, is_found, "the second copy of block 2");
     nvm.invalidate(2, 0)?;
-    assert!(rt; reads(&mut nvm, 2, 0, Got::Invalid, &[0xee]));
-    assert!(rt; nvm.retire().boots_left() == 0);
+    let is_invalid = reads(&mut nvm, 2, 0, Got::Invalid, &[0xee]);
+    holds(&rt, is_invalid, "block 2");
+    holds(&rt, nvm.retire().boots_left() == 0, "no boot is left");
     Ok(())
 }

@@ -5,6 +5,7 @@ ghost use Rattle.flt_ea.specs.Memory.{eeprom_state as device_state};
 ghost use Rattle.flt_store_model.specs.Layout.{numbers};
 
 use super::*;
+use flt_flash::BlockFault;
 use flt_restore::{Restored, restore};
 
 static MARK: [u8; 8] = [1, 1, 2, 0, 0, 1, 0, 0];
@@ -76,8 +77,20 @@ fn a_blank_image_holds_the_first_generation(rt: HostRuntime) -> Result<(), Fail>
     let mut out = initial(&config);
     let driver = units_driver(rt.alloc(), 0)?;
     let found = restored(rt.alloc(), driver, &config, &mut out)?;
-    assert!(rt; is_blank(&found) && out == initial(&config));
+    let is_first = is_blank(&found) && out == initial(&config);
+    holds(&rt, is_first, "the first generation");
     Ok(())
+}
+
+/// Writes these blocks.
+fn write_all(driver: &mut Ea<EepromMem>) -> Result<(), BlockFault>
+    requires { (ea_state device_state driver.old).numbers ≡ numbers }
+    ensures { (ea_state device_state driver.new).numbers ≡ numbers }
+{
+    driver.write(8, &MARK)?;
+    driver.write(17, &COMMIT)?;
+    driver.write(24, &SUMMARY)?;
+    driver.write(65, &NO_ENTRY)
 }
 
 /// The blocks of generation 7, under a mark of version 1. The first copy of the commit is missing.
@@ -85,10 +98,7 @@ fn saved(alloc: Global) -> Result<Ea<EepromMem>, Fail>
     ensures { IfOk result (λ driver. (ea_state device_state driver).numbers ≡ numbers) }
 {
     let mut driver = units_driver(alloc, 0)?;
-    driver.write(8, &MARK)?;
-    driver.write(17, &COMMIT)?;
-    driver.write(24, &SUMMARY)?;
-    driver.write(65, &NO_ENTRY)?;
+    write_all(&mut driver)?;
     Ok(driver)
 }
 
@@ -110,8 +120,9 @@ fn an_image_is_restored_by_its_second_copy(rt: HostRuntime) -> Result<(), Fail> 
     let config = valid(&rt);
     let mut out = initial(&config);
     let found = restored(rt.alloc(), saved(rt.alloc())?, &config, &mut out)?;
-    assert!(rt; is_by_second_copy(&found));
-    assert!(rt; out.overflow && out.entries.is_empty());
+    holds(&rt, is_by_second_copy(&found), "the second copy");
+    let is_restored = out.overflow && out.entries.is_empty();
+    holds(&rt, is_restored, "the state");
     Ok(())
 }
 
@@ -130,6 +141,6 @@ fn a_long_application_block_is_damage(rt: HostRuntime) -> Result<(), Fail> {
     let mut driver = units_driver(rt.alloc(), 0)?;
     driver.write(520, &[0; 33])?;
     let found = restored(rt.alloc(), driver, &config, &mut out)?;
-    assert!(rt; is_damaged(&found, 65));
+    holds(&rt, is_damaged(&found, 65), "the damage");
     Ok(())
 }

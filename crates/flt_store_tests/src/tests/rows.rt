@@ -89,9 +89,14 @@ static FIRST_SAVE: [(u16, u16, u16); 6] = [
 fn the_first_save_writes_each_block_once(rt: HostRuntime) -> Result<(), Fail> {
     let flash = saved_flash(&rt, rt.alloc())?;
     for (page, block, length) in &FIRST_SAVE {
-        assert!(&rt; is_record(&flash, *page, *block, *length), "{page}");
+        let is_there = is_record(&flash, *page, *block, *length);
+        holds_at(&rt, is_there, "page", *page as usize);
     }
-    assert!(&rt; page_of(&flash, 0, 23) == BLANK_PAGE);
+    holds(
+        &rt,
+        page_of(&flash, 0, 23) == BLANK_PAGE,
+        "the page after them",
+    );
     Ok(())
 }
 
@@ -255,7 +260,7 @@ fn play_all(
 ) -> Result<(), Fail> {
     for (at, (first, rest, records)) in rows.iter().enumerate() {
         let flash = play(rt, alloc, config, states, first, rest)?;
-        assert!(rt; are_records(&flash, records), "row {at}");
+        holds_at(rt, are_records(&flash, records), "row", at);
     }
     Ok(())
 }
@@ -339,18 +344,30 @@ fn repair_first_copy<B: Blocks + Drop>(nvm: &mut Nvm<B>) -> Result<(), Fail>
     }
 }
 
+/// Whether the commit, of 10 bytes, is read from this copy.
+fn reads_from<B: Blocks + Drop>(nvm: &mut Nvm<B>, copy: u8, out: &mut [u8; 128]) -> bool
+    requires { table_of nvm.old ≡ block_table }
+    ensures { table_of nvm.new ≡ table_of nvm.old }
+{
+    nvm.read(COMMIT_ID, 0, out) == Ok(Got::Bytes { length: 10, copy })
+}
+
 /// Reads the commit from its second copy while the first is missing, and from the first once that was repaired.
 fn read_and_repair<B: Blocks + Drop>(rt: &impl Abort, nvm: &mut Nvm<B>) -> Result<(), Fail>
     requires { table_of nvm.old ≡ block_table }
 {
     let mut out = [0; 128];
     let mut again = [0; 128];
-    assert!(rt; nvm.read_copy(COMMIT_ID, 1, &mut out)? == Got::Missing);
-    let length = 10;
-    assert!(rt; nvm.read(COMMIT_ID, 0, &mut out)? == Got::Bytes { length, copy: 2 });
+    let is_missing = nvm.read_copy(COMMIT_ID, 1, &mut out) == Ok(Got::Missing);
+    holds(rt, is_missing, "the first copy");
+    holds(rt, reads_from(nvm, 2, &mut out), "a read");
     repair_first_copy(nvm)?;
-    assert!(rt; nvm.read(COMMIT_ID, 0, &mut again)? == Got::Bytes { length, copy: 1 });
-    assert!(rt; out == again);
+    holds(
+        rt,
+        reads_from(nvm, 1, &mut again),
+        "a read after the repair",
+    );
+    holds(rt, out == again, "the bytes of both copies");
     Ok(())
 }
 
@@ -381,7 +398,7 @@ fn a_missing_first_copy_beside_a_muted_one_is_dark(rt: HostRuntime) -> Result<()
         times: 3,
     };
     arm(&rt, &mut store, mute);
-    assert!(&rt; is_dark(&mut store, &config));
+    holds(&rt, is_dark(&mut store, &config), "a start-up that is dark");
     play_on(&rt, &mut store, &config, (1, failed()), &[], &[])
 }
 
@@ -416,14 +433,25 @@ fn the_last_generation_is_not_followed(rt: HostRuntime) -> Result<(), Fail> {
     play_on(&rt, &mut store, &config, first, &[failed()], &LAST)
 }
 
+/// Whether block 0 is missing after a start-up, and holds a byte once that was put.
+fn keeps_a_byte<B: Blocks + Drop>(
+    rt: &impl Abort,
+    store: &mut Store<B>,
+    config: &ValidConfig,
+) -> bool
+    requires { IsRoomy config.now store.old }
+{
+    start(store, config).is_ok()
+        && get(rt, store, config) == Ok(None)
+        && put(rt, store, config, 1) == Ok(())
+        && get(rt, store, config) == Ok(Some(1))
+}
+
 #[test]
 fn an_application_block_is_missing_until_it_is_put(rt: HostRuntime) -> Result<(), Fail> {
     let config = configured(&rt, 1, 1, 1);
     let mut store = blank_store(rt.alloc(), &config)?;
-    start(&mut store, &config)?;
-    assert!(&rt; get(&rt, &mut store, &config) == Ok(None));
-    assert!(&rt; put(&rt, &mut store, &config, 1) == Ok(()));
-    assert!(&rt; get(&rt, &mut store, &config) == Ok(Some(1)));
+    holds(&rt, keeps_a_byte(&rt, &mut store, &config), "block 0");
     Ok(())
 }
 
@@ -498,7 +526,7 @@ fn an_image_of_version_1_is_restored(rt: HostRuntime) -> Result<(), Fail> {
         let mut store = store_over(rt.alloc(), flash, &config)?;
         play_on(&rt, &mut store, &config, (1, failed()), &[failed()], steps)?;
         let flash = store.retire().retire();
-        assert!(&rt; is_record(&flash, 23, 8, 8));
+        holds(&rt, is_record(&flash, 23, 8, 8), "the new mark");
     }
     Ok(())
 }

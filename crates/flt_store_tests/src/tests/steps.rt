@@ -99,7 +99,8 @@ fn take_all<B: Blocks + Drop>(
     ensures room { SameRoom store.old store.new }
 {
     for (at, step) in steps.iter().enumerate() {
-        assert!(rt; take(rt, store, config, states, *step)?, "step {at}");
+        let goes = take(rt, store, config, states, *step)?;
+        assert!(rt; goes, "step {at}");
     }
     Ok(())
 }
@@ -117,8 +118,24 @@ pub(super) fn play_on<B: Blocks + Drop>(
     ensures alive { OnOk result (IsAlive config.now store.new) }
     ensures room { SameRoom store.old store.new }
 {
-    assert!(rt; start(store, config)? == first);
+    let is_first = start(store, config)? == first;
+    holds(rt, is_first, "the first start-up");
     take_all(rt, store, config, states, steps)
+}
+
+/// Starts up on a blank device, and takes the first steps and then the rest.
+fn play_twice<B: Blocks + Drop>(
+    rt: &impl Abort,
+    store: &mut Store<B>,
+    config: &ValidConfig,
+    states: &[Persist],
+    first: &[Step],
+    rest: &[Step],
+) -> Result<(), Fail>
+    requires { IsRoomy config.now store.old }
+{
+    play_on(rt, store, config, (0, initial(config)), states, first)?;
+    take_all(rt, store, config, states, rest)
 }
 
 /// Takes the first steps and then the rest on a store over a blank flash; the flash comes back.
@@ -131,7 +148,6 @@ pub(super) fn play(
     rest: &[Step],
 ) -> Result<FlashMem, Fail> {
     let mut store = blank_store(alloc, config)?;
-    play_on(rt, &mut store, config, (0, initial(config)), states, first)?;
-    take_all(rt, &mut store, config, states, rest)?;
+    play_twice(rt, &mut store, config, states, first, rest)?;
     Ok(store.retire().retire())
 }

@@ -133,6 +133,11 @@ fn says<B: Blocks + Drop>(
     Ok(found == before || found == asked)
 }
 
+/// Stops the test unless this is so of a stop.
+fn holds_of(rt: &impl Abort, is_so: bool, stop: Stop) {
+    assert!(rt; is_so, "{stop:?}");
+}
+
 /// Makes a job on a flash in bytes that stop, and opens them again. It returns how long the write was that stopped.
 fn flash_stops(
     rt: &impl Abort,
@@ -146,7 +151,7 @@ fn flash_stops(
     let (before, asked) = live(rt, &mut store, config, case);
     let noted = store.retire().retire().into_store();
     let again = flash_store(alloc, noted.bytes.into_bytes(), config, None)?;
-    assert!(rt; says(rt, again, config, before, asked)?, "{stop:?}");
+    holds_of(rt, says(rt, again, config, before, asked)?, stop);
     Ok(noted.stopped)
 }
 
@@ -163,7 +168,7 @@ fn units_stop(
     let (before, asked) = live(rt, &mut store, config, case);
     let noted = store.retire().retire().into_store();
     let again = units_store_in(alloc, noted.bytes.into_bytes(), config, None)?;
-    assert!(rt; says(rt, again, config, before, asked)?, "{stop:?}");
+    holds_of(rt, says(rt, again, config, before, asked)?, stop);
     Ok(noted.stopped)
 }
 
@@ -193,15 +198,16 @@ fn each_stops(rt: &impl Abort, alloc: Global, case: &Case<'_>, erases: u32) -> R
         if length == FLASH_BYTES / 2 {
             whole = whole.saturating_add(1);
         } else {
-            assert_eq!(rt; length, 32);
+            holds_at(rt, length == 32, "the bytes of write", write as usize);
         }
     }
-    assert_eq!(rt; whole, erases);
+    holds_at(rt, whole == erases, "the erases are not", whole as usize);
     let behind = Stop {
         write: case.writes.saturating_add(1),
         bytes: 0,
     };
-    assert_eq!(rt; flash_stops(rt, alloc, &config, case, behind)?, None);
+    let stopped = flash_stops(rt, alloc, &config, case, behind)?;
+    holds_of(rt, stopped.is_none(), behind);
     Ok(())
 }
 
@@ -253,7 +259,7 @@ fn each_write_to_the_bytes_of_an_eeprom_stops(rt: HostRuntime) -> Result<(), Fai
         for write in 1..WRITES + 2 {
             let stop = Stop { write, bytes };
             let stopped = units_stop(&rt, rt.alloc(), &config, &case, stop)?;
-            assert!(&rt; stopped.is_none() == (write > WRITES), "{stop:?}");
+            holds_of(&rt, stopped.is_none() == (write > WRITES), stop);
         }
     }
     Ok(())
