@@ -3,6 +3,7 @@
 ghost use Rattle.std.specs.Prelude.{◌<◌, ◌↔◌, IsTrue, length};
 ghost use Rattle.flt_dem.specs.Dem.{manager_config};
 
+use super::{holds, holds_at};
 use arrayvec::ArrayVec;
 use flt_config::{Config, EventCfg, check};
 use flt_dem::*;
@@ -134,8 +135,9 @@ fn entries_are_those_of_the_plain_rule(rt: HostRuntime) {
     for turn in 0..500u16 {
         drawn = drawn.wrapping_mul(1_664_525).wrapping_add(1_013_904_223);
         let event = ((drawn >> 20) % 6) as u16;
-        assert!(&rt; reports(&mut dem, &mut plain, event, drawn & 0x8_0000 == 0));
-        assert!(&rt; are_alike(&dem, &plain), "report {turn}, of event {event}");
+        let are_alike = reports(&mut dem, &mut plain, event, drawn & 0x8_0000 == 0)
+            && are_alike(&dem, &plain);
+        holds_at(&rt, are_alike, "the entries after report", turn as usize);
     }
-    assert!(&rt; plain.held.len() == 2);
+    holds(&rt, plain.held.len() == 2, "the entries at the end");
 }

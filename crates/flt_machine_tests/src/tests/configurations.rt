@@ -1,11 +1,13 @@
 //! Configurations from the check to their first state.
 ghost use Rattle.std.specs.Prelude.{◌≡◌, ◌<◌};
 
+use super::{holds, holds_at};
 use arrayvec::ArrayVec;
 use flt_config::{
     CfgFault, Config, DidUse, EVENTS, EntryState, EventCfg, EventState, Field, Frame, Persist,
     ValidConfig, check, fits, initial, needed_pages,
 };
+use std::process::Abort;
 
 fn config(pages: u16, events: ArrayVec<EventCfg, EVENTS>) -> Config {
     Config {
@@ -28,19 +30,31 @@ fn full() -> ArrayVec<EventCfg, EVENTS> {
     events
 }
 
-#[test]
-fn a_full_configuration_is_accepted(rt: HostRuntime) {
-    let Ok(valid) = check(config(512, full())) else {
-        panic!(&rt; "refused")
+/// A configuration that is valid.
+fn accepted(rt: &impl Abort, config: Config) -> ValidConfig {
+    let Ok(valid) = check(config) else {
+        panic!(rt; "refused")
     };
-    assert!(&rt; valid.config().events.len() == EVENTS);
-    assert!(&rt; needed_pages(valid.config()) == 334);
-    assert!(&rt; fits(&valid, &initial(&valid.twin())));
+    valid
 }
 
-/// The first fault of a configuration, where it has one.
-fn fault_of(pages: u16, events: ArrayVec<EventCfg, EVENTS>) -> Option<CfgFault> {
-    check(config(pages, events)).err()
+#[test]
+fn a_full_configuration_is_accepted(rt: HostRuntime) {
+    let valid = accepted(&rt, config(512, full()));
+    let is_full = valid.config().events.len() == EVENTS;
+    holds(&rt, is_full, "how many events");
+    let has_its_pages = needed_pages(valid.config()) == 334;
+    holds(&rt, has_its_pages, "how many pages");
+    holds(
+        &rt,
+        fits(&valid, &initial(&valid.twin())),
+        "the first state",
+    );
+}
+
+/// Whether this is the first fault of a configuration.
+fn is_fault(pages: u16, events: ArrayVec<EventCfg, EVENTS>, fault: CfgFault) -> bool {
+    check(config(pages, events)).err() == Some(fault)
 }
 
 #[test]
@@ -49,15 +63,21 @@ fn the_first_fault_is_told(rt: HostRuntime) {
     events.push(EventCfg::new(1));
     events.push(EventCfg::new(1));
     let (first, second) = (0, 1);
-    assert!(&rt; fault_of(512, events) == Some(CfgFault::DtcTwice { first, second }));
+    let twice = CfgFault::DtcTwice { first, second };
+    holds(
+        &rt,
+        is_fault(512, events, twice),
+        "a DTC that is twice there",
+    );
     let range = CfgFault::Range {
         event: None,
         field: Field::Pages,
         value: 63,
     };
-    assert!(&rt; fault_of(63, ArrayVec::new()) == Some(range));
+    holds(&rt, is_fault(63, ArrayVec::new(), range), "63 pages");
     let (needed, pages) = (206, 64);
-    assert!(&rt; fault_of(64, ArrayVec::new()) == Some(CfgFault::NoRoom { needed, pages }));
+    let no_room = CfgFault::NoRoom { needed, pages };
+    holds(&rt, is_fault(64, ArrayVec::new(), no_room), "64 pages");
 }
 
 /// Three events of a memory with two entries. The second lights the indicator and heals after three cycles, and its frames have two bytes.
@@ -163,51 +183,51 @@ fn fits_with(valid: &ValidConfig, event: usize, event_state: EventState) -> bool
     fits(valid, &state)
 }
 
+/// Whether the first state without its last event fits.
+fn fits_short(valid: &ValidConfig) -> bool {
+    let mut short = initial(valid);
+    let _ = short.events.pop();
+    fits(valid, &short)
+}
+
 #[test]
 fn states_of_events_fit_or_not(rt: HostRuntime) {
-    let Ok(valid) = check(three()) else {
-        panic!(&rt; "refused")
-    };
-    for (event, status, clean, lit, fit) in &STATES {
+    let valid = accepted(&rt, three());
+    for (row, (event, status, clean, lit, fit)) in STATES.iter().enumerate() {
         let event_state = EventState {
             status: *status,
             failed: 0,
             clean: *clean,
             lit: *lit,
         };
-        assert!(&rt;
-            fits_with(&valid, *event, event_state) == *fit,
-            "{status} {clean} {lit}"
-        );
+        let is_so = fits_with(&valid, *event, event_state) == *fit;
+        holds_at(&rt, is_so, "state", row);
     }
-    let mut short = initial(&valid);
-    let _ = short.events.pop();
-    assert!(&rt; !fits(&valid, &short));
+    holds(&rt, !fits_short(&valid), "a state of one event less");
 }
 
 #[test]
 fn entries_fit_or_not(rt: HostRuntime) {
-    let Ok(valid) = check(three()) else {
-        panic!(&rt; "refused")
-    };
-    for (number, (entries, fit)) in ENTRIES.iter().enumerate() {
+    let valid = accepted(&rt, three());
+    for (row, (entries, fit)) in ENTRIES.iter().enumerate() {
         let mut state = initial(&valid);
         put_entries(&mut state, entries);
-        assert!(&rt; fits(&valid, &state) == *fit, "{number}");
+        holds_at(&rt, fits(&valid, &state) == *fit, "entries", row);
     }
 }
 
 #[test]
 fn noted_events_fit_or_not(rt: HostRuntime) {
-    let Ok(valid) = check(three()) else {
-        panic!(&rt; "refused")
-    };
-    for (first_failed, first_confirmed, recent_failed, recent_confirmed, fit) in &NOTES {
+    let valid = accepted(&rt, three());
+    for (row, (first_failed, first_confirmed, recent_failed, recent_confirmed, fit)) in NOTES
+        .iter()
+        .enumerate()
+    {
         let mut state = initial(&valid);
         state.first_failed = *first_failed;
         state.first_confirmed = *first_confirmed;
         state.recent_failed = *recent_failed;
         state.recent_confirmed = *recent_confirmed;
-        assert!(&rt; fits(&valid, &state) == *fit, "{first_failed:?}");
+        holds_at(&rt, fits(&valid, &state) == *fit, "notes", row);
     }
 }

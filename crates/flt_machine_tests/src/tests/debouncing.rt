@@ -2,8 +2,14 @@
 ghost use Rattle.flt_config.specs.Validity.{IsDebounceInRange};
 ghost use Rattle.flt_model.specs.Debounce.{IsOfKind};
 
+use super::holds;
 use flt_debounce::{DebState, Debounce, Qualified, Report, fdc, report, rest, tick};
 use std::process::Abort;
+
+/// Stops the test unless this is so of a step that leads to this counter.
+fn holds_of(rt: &impl Abort, is_so: bool, counter: i8) {
+    assert!(rt; is_so, "the step to {counter}");
+}
 
 /// A report gives this result, and leaves this fault detection counter.
 fn reports(
@@ -18,11 +24,8 @@ fn reports(
     requires kind { IsOfKind rules.now state.old }
     ensures { IsOfKind rules.now state.new }
 {
-    assert!(rt;
-        report(rules, state, made) == wanted,
-        "{made:?} at {counter}"
-    );
-    assert!(rt; fdc(rules, state) == counter, "{made:?} to {counter}");
+    let is_told = report(rules, state, made) == wanted && fdc(rules, state) == counter;
+    holds_of(rt, is_told, counter);
 }
 
 /// This many ticks give this result, and leave this counter.
@@ -38,11 +41,8 @@ fn ticks(
     requires kind { IsOfKind rules.now state.old }
     ensures { IsOfKind rules.now state.new }
 {
-    assert!(rt;
-        tick(rules, state, count) == wanted,
-        "{count} ticks at {counter}"
-    );
-    assert!(rt; fdc(rules, state) == counter, "{count} ticks to {counter}");
+    let is_told = tick(rules, state, count) == wanted && fdc(rules, state) == counter;
+    holds_of(rt, is_told, counter);
 }
 
 #[test]
@@ -56,11 +56,11 @@ fn a_counter_of_the_whole_range_clamps_at_both_ends(rt: HostRuntime) {
         jump_down: None,
     };
     let mut state = rest(&rules);
-    assert!(rt; fdc(&rules, &state) == 0);
+    holds_of(&rt, fdc(&rules, &state) == 0, 0);
     reports(&rt, &rules, &mut state, Report::PrePassed, None, -127);
     let passed = Some(Qualified::Passed);
     reports(&rt, &rules, &mut state, Report::PrePassed, passed, -128);
-    assert!(rt; state == DebState::Count(-32768));
+    holds(&rt, state == DebState::Count(-32768), "the lowest count");
     let failed = Some(Qualified::Failed);
     reports(&rt, &rules, &mut state, Report::Failed, failed, 127);
 }

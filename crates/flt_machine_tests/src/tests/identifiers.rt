@@ -1,4 +1,5 @@
 //! The table of data identifiers, and the stored functions at the ends of the signals.
+use super::{holds, holds_at};
 use arrayvec::ArrayVec;
 use flt_config::{DIDS, DidUse, SignalIndex};
 use flt_did::{
@@ -15,13 +16,37 @@ fn full() -> DidTable<3> {
     table
 }
 
+/// The widths by their data identifiers.
+static WIDTHS: [(u16, Option<u8>); 4] = [
+    (0x0101, Some(2)),
+    (0x0102, Some(2)),
+    (0x0103, Some(1)),
+    (0x0104, None),
+];
+
 #[test]
 fn refuses_a_second_row_and_a_row_too_many(rt: HostRuntime) {
     let mut table = full();
-    assert!(rt; table.add(0x0101, 2, did_0101) == Err(TableFault::DidTwice));
-    assert!(rt; table.add(0x0104, 4, did_0104) == Err(TableFault::TableFull));
-    assert!(rt; table.width(0x0101) == Some(2) && table.width(0x0102) == Some(2));
-    assert!(rt; table.width(0x0103) == Some(1) && table.width(0x0104).is_none());
+    let second = table.add(0x0101, 2, did_0101);
+    holds(&rt, second == Err(TableFault::DidTwice), "a second row");
+    let fourth = table.add(0x0104, 4, did_0104);
+    holds(&rt, fourth == Err(TableFault::TableFull), "a fourth row");
+    for (id, width) in &WIDTHS {
+        holds_at(
+            &rt,
+            table.width(*id) == *width,
+            "the width of",
+            *id as usize,
+        );
+    }
+}
+
+/// Signals of which two are not 0.
+fn signals() -> Signals {
+    let mut signals = Signals::zero();
+    signals.set(SignalIndex::new(0), 258);
+    signals.set(SignalIndex::new(2), 7);
+    signals
 }
 
 #[test]
@@ -38,11 +63,9 @@ fn a_frame_has_its_values_in_order(rt: HostRuntime) {
         id: 0x0101,
         width: 2,
     });
-    let mut signals = Signals::zero();
-    signals.set(SignalIndex::new(0), 258);
-    signals.set(SignalIndex::new(2), 7);
-    let frame = table.frame(&uses, &signals);
-    assert!(&rt; frame.as_slice() == [0x07, 0x01, 0x02].as_slice());
+    let frame = table.frame(&uses, &signals());
+    let is_in_order = frame.as_slice() == [0x07, 0x01, 0x02].as_slice();
+    holds(&rt, is_in_order, "the frame");
 }
 
 /// The signals, all at their greatest.
@@ -57,11 +80,15 @@ fn greatest() -> Signals {
 #[test]
 fn tells_the_values_at_the_ends_of_the_signals(rt: HostRuntime) {
     let signals = Signals::zero();
-    assert!(rt; did_0105(&signals) == 0 && did_0107(&signals) == 0);
+    let are_zero = did_0105(&signals) == 0 && did_0107(&signals) == 0;
+    holds(&rt, are_zero, "of signals that are 0");
     let signals = greatest();
-    assert!(rt; did_0101(&signals) == 65535 && did_0102(&signals) == 65535);
-    assert!(rt; did_0103(&signals) == 255 && did_0105(&signals) == 255);
-    assert!(rt; did_0104(&signals) == 4_294_967_295);
-    assert!(rt; did_0106(&signals) == 65535);
-    assert!(rt; did_0107(&signals) == 18_446_744_073_709_551_615);
+    holds(&rt, did_0101(&signals) == 65535, "0101");
+    holds(&rt, did_0102(&signals) == 65535, "0102");
+    holds(&rt, did_0103(&signals) == 255, "0103");
+    holds(&rt, did_0104(&signals) == 4_294_967_295, "0104");
+    holds(&rt, did_0105(&signals) == 255, "0105");
+    holds(&rt, did_0106(&signals) == 65535, "0106");
+    let whole = 18_446_744_073_709_551_615;
+    holds(&rt, did_0107(&signals) == whole, "0107");
 }

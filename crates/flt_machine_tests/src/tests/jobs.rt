@@ -1,6 +1,7 @@
 //! The queue by hand.
 ghost use Rattle.std.specs.Prelude.{◌≡◌, ◌<◌, length};
 
+use super::{holds, holds_at};
 use arrayvec::ArrayVec;
 use flt_queue::{Job, JobQueue, LastResult, QueueOp, QueueReply};
 use std::process::Abort;
@@ -69,10 +70,8 @@ fn post_all(rt: &impl Abort, queue: &mut JobQueue)
     ensures { queue.new.blocks ≡ 40 }
 {
     for block in 0..32u8 {
-        assert!(rt;
-            post(queue, false, block) == QueueReply::Accepted,
-            "{block}"
-        );
+        let is_accepted = post(queue, false, block) == QueueReply::Accepted;
+        holds_at(rt, is_accepted, "a post for block", block as usize);
     }
 }
 
@@ -82,9 +81,30 @@ fn do_all(rt: &impl Abort, queue: &mut JobQueue)
     ensures { queue.new.blocks ≡ 40 }
 {
     for block in 0..32u8 {
-        assert!(rt; is_next(queue, block), "{block}");
-        assert!(rt; done(queue, block) == QueueReply::Noted, "{block}");
+        let is_done = is_next(queue, block) && done(queue, block) == QueueReply::Noted;
+        holds_at(rt, is_done, "the job of block", block as usize);
     }
+}
+
+/// Whether the queue takes no job of another block, nor of one whose job waits and was not taken.
+fn is_full(queue: &mut JobQueue) -> bool
+    requires { queue.old.blocks ≡ 40 }
+    ensures { queue.new.blocks ≡ 40 }
+{
+    post(queue, false, 32) == QueueReply::QueueFull
+        && post(queue, false, 0) == QueueReply::BlockPending
+        && is_last(queue, 0, LastResult::Pending)
+        && done(queue, 0) == QueueReply::NotTaken
+}
+
+/// Whether no job is left, the one of block 0 was written, and block 32 never had one.
+fn is_empty(queue: &mut JobQueue) -> bool
+    requires { queue.old.blocks ≡ 40 }
+    ensures { queue.new.blocks ≡ 40 }
+{
+    take(queue) == QueueReply::NoJob
+        && is_last(queue, 0, LastResult::Written)
+        && is_last(queue, 32, LastResult::Never)
 }
 
 /// 32 jobs wait, and not one more; each is taken once, in order, and done.
@@ -92,14 +112,9 @@ fn do_all(rt: &impl Abort, queue: &mut JobQueue)
 fn forty_blocks(rt: HostRuntime) -> Result<(), Fail> {
     let mut queue = JobQueue::new(rt.alloc(), 40)?;
     post_all(&rt, &mut queue);
-    assert!(rt; post(&mut queue, false, 32) == QueueReply::QueueFull);
-    assert!(rt; post(&mut queue, false, 0) == QueueReply::BlockPending);
-    assert!(rt; is_last(&mut queue, 0, LastResult::Pending));
-    assert!(rt; done(&mut queue, 0) == QueueReply::NotTaken);
+    holds(&rt, is_full(&mut queue), "the full queue");
     do_all(&rt, &mut queue);
-    assert!(rt; take(&mut queue) == QueueReply::NoJob);
-    assert!(rt; is_last(&mut queue, 0, LastResult::Written));
-    assert!(rt; is_last(&mut queue, 32, LastResult::Never));
+    holds(&rt, is_empty(&mut queue), "the empty queue");
     Ok(())
 }
 
@@ -107,8 +122,11 @@ fn forty_blocks(rt: HostRuntime) -> Result<(), Fail> {
 #[test]
 fn urgent_first(rt: HostRuntime) -> Result<(), Fail> {
     let mut queue = JobQueue::new(rt.alloc(), 40)?;
-    assert!(rt; post(&mut queue, false, 0) == QueueReply::Accepted);
-    assert!(rt; post(&mut queue, true, 1) == QueueReply::Accepted);
-    assert!(rt; is_next(&mut queue, 1) && is_next(&mut queue, 0));
+    let is_accepted = post(&mut queue, false, 0) == QueueReply::Accepted;
+    holds(&rt, is_accepted, "a standard job");
+    let is_accepted = post(&mut queue, true, 1) == QueueReply::Accepted;
+    holds(&rt, is_accepted, "an urgent job");
+    let are_next = is_next(&mut queue, 1) && is_next(&mut queue, 0);
+    holds(&rt, are_next, "the urgent job and then the standard one");
     Ok(())
 }

@@ -2,6 +2,7 @@
 ghost use Rattle.std.specs.Prelude.{◌<◌, ◌↔◌, IsTrue, length};
 ghost use Rattle.flt_dem.specs.Dem.{manager_config};
 
+use super::holds;
 use arrayvec::ArrayVec;
 use flt_config::{Config, DIDS, DidUse, EventCfg, check, initial};
 use flt_dem::*;
@@ -62,7 +63,7 @@ fn reports(dem: &mut Dem, report: Report) -> bool {
 }
 
 /// Whether the event's entry has this occurrence and these frames.
-fn holds(dem: &Dem, occurrence: u8, first: &[u8], recent: &[u8]) -> bool {
+fn has_frames(dem: &Dem, occurrence: u8, first: &[u8], recent: &[u8]) -> bool {
     match dem.entry(0) {
         Some(entry) => {
             entry.occurrence == occurrence
@@ -79,11 +80,15 @@ fn frames_are_taken_at_the_first_and_the_last_failure(rt: HostRuntime) {
     dem.signal(0, 258);
     dem.signal(2, 7);
     dem.cycle(0);
-    assert!(&rt; reports(&mut dem, Report::Failed));
-    assert!(&rt; holds(&dem, 1, &[1, 2, 7], &[1, 2, 7]));
+    let is_taken = reports(&mut dem, Report::Failed);
+    holds(&rt, is_taken, "the first failure");
+    let has_entry = has_frames(&dem, 1, &[1, 2, 7], &[1, 2, 7]);
+    holds(&rt, has_entry, "the entry after it");
     dem.signal(0, 3);
-    assert!(&rt; reports(&mut dem, Report::Passed) && reports(&mut dem, Report::Failed));
-    assert!(&rt; holds(&dem, 2, &[1, 2, 7], &[0, 3, 7]));
+    let are_taken = reports(&mut dem, Report::Passed) && reports(&mut dem, Report::Failed);
+    holds(&rt, are_taken, "a pass and the last failure");
+    let has_entry = has_frames(&dem, 2, &[1, 2, 7], &[0, 3, 7]);
+    holds(&rt, has_entry, "the entry after them");
 }
 
 /// Whether the first to fail and the last to be confirmed is this event, and the last to fail.
@@ -104,9 +109,12 @@ fn saved_entries(dem: &Dem) -> usize {
 fn noted_events_are_told_until_all_are_cleared(rt: HostRuntime) {
     let mut dem = manager().expect(&rt, "the configuration is valid");
     dem.cycle(0);
-    assert!(&rt; reports(&mut dem, Report::Failed) && notes(&dem, Some(0)));
-    assert!(&rt; dem.find(0x123456) == Some(0) && dem.find(0x123457).is_none());
-    assert!(&rt; saved_entries(&dem) == 1);
+    let is_noted = reports(&mut dem, Report::Failed) && notes(&dem, Some(0));
+    holds(&rt, is_noted, "the event after its failure");
+    let is_found = dem.find(0x123456) == Some(0) && dem.find(0x123457).is_none();
+    holds(&rt, is_found, "the events by their DTCs");
+    holds(&rt, saved_entries(&dem) == 1, "the entries of a save");
     dem.clear_all();
-    assert!(&rt; notes(&dem, None) && dem.entry(0).is_none());
+    let is_cleared = notes(&dem, None) && dem.entry(0).is_none();
+    holds(&rt, is_cleared, "the event after a clear");
 }

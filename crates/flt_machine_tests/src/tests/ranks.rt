@@ -1,4 +1,5 @@
 //! Which entry gives way.
+use super::holds;
 use flt_model::{DebState, Rank};
 
 #[test]
@@ -11,14 +12,14 @@ fn the_worse_rank_gives_way(rt: HostRuntime) {
         priority: 5,
         passive: true,
     };
-    assert!(&rt; passive.is_worse(active));
-    assert!(&rt; !active.is_worse(passive));
-    assert!(&rt; passive.gives_way(5));
-    assert!(&rt; !active.gives_way(5));
-    assert!(&rt; active.gives_way(1));
+    let is_worse = passive.is_worse(active) && !active.is_worse(passive);
+    holds(&rt, is_worse, "the passive one is worse");
+    let gives_way = passive.gives_way(5) && !active.gives_way(5);
+    holds(&rt, gives_way, "the passive one gives way to its like");
+    holds(&rt, active.gives_way(1), "the active one to a better one");
 }
 
 #[test]
 fn debouncing_begins_at_rest(rt: HostRuntime) {
-    assert!(&rt; DebState::default() == DebState::Idle);
+    holds(&rt, DebState::default() == DebState::Idle, "at rest");
 }

@@ -1,6 +1,7 @@
 //! The requests of the profile, written as a table of their own, against every service, sub-function and length.
 ghost use Rattle.std.specs.Prelude.{◌≡◌, length};
 
+use super::{holds, holds_at};
 use arrayvec::ArrayVec;
 use flt_uds::{
     Asked, Negative, REQUEST_OUT_OF_RANGE, RESPONSE, Request, put_bytes, put_dtc, put_dtc_with,
@@ -146,8 +147,15 @@ fn differences(service: u8, second: u8, extended: bool) -> u32 {
 fn every_service_sub_function_and_length_is_answered_by_the_table(rt: HostRuntime) {
     for service in 0..=255u8 {
         for second in 0..=255u8 {
-            assert!(rt; differences(service, second, false) == 0);
-            assert!(rt; differences(service, second, true) == 0);
+            let are_none = differences(service, second, false) == 0
+                && differences(service, second, true) == 0;
+            let front = u32::from(service) * 256 + u32::from(second);
+            holds_at(
+                &rt,
+                are_none,
+                "the request that begins with",
+                front as usize,
+            );
         }
     }
 }
@@ -168,22 +176,24 @@ fn a_record_is_the_first_the_second_or_both(rt: HostRuntime) {
     for number in 0..=255u8 {
         let first = [0x19, 0x04, 0x12, 0x34, 0x56, number];
         let second = [0x19, 0x86, 0x12, 0x34, 0x56, number];
-        if number == 1 || number == 2 || number == 255 {
-            assert!(rt; asks(&first, false, Request::Snapshot { dtc, number }, false));
-            assert!(rt; asks(&second, true, Request::Extended { dtc, number }, true));
+        let is_so = if number == 1 || number == 2 || number == 255 {
+            asks(&first, false, Request::Snapshot { dtc, number }, false)
+                && asks(&second, true, Request::Extended { dtc, number }, true)
         } else {
-            assert!(rt; is_refused(&first, false, 0x31) && is_refused(&second, true, 0x31));
-        }
+            is_refused(&first, false, 0x31) && is_refused(&second, true, 0x31)
+        };
+        holds_at(&rt, is_so, "the record", number as usize);
     }
 }
 
 #[test]
 fn the_option_bytes_of_a_setting_are_all_ff(rt: HostRuntime) {
     for byte in 0..=254u8 {
-        assert!(rt; is_refused(&[0x85, 0x01, byte, 0xFF, 0xFF], true, 0x31));
-        assert!(rt; is_refused(&[0x85, 0x02, 0xFF, byte, 0xFF], true, 0x31));
-        assert!(rt; is_refused(&[0x85, 0x82, 0xFF, 0xFF, byte], true, 0x31));
-        assert!(rt; is_refused(&[0x85, 0x02, 0xFF, 0xFF, byte], false, 0x7F));
+        let are_refused = is_refused(&[0x85, 0x01, byte, 0xFF, 0xFF], true, 0x31)
+            && is_refused(&[0x85, 0x02, 0xFF, byte, 0xFF], true, 0x31)
+            && is_refused(&[0x85, 0x82, 0xFF, 0xFF, byte], true, 0x31)
+            && is_refused(&[0x85, 0x02, 0xFF, 0xFF, byte], false, 0x7F);
+        holds_at(&rt, are_refused, "the option byte", byte as usize);
     }
 }
 
@@ -191,16 +201,11 @@ fn the_option_bytes_of_a_setting_are_all_ff(rt: HostRuntime) {
 fn every_mask_and_dtc_is_handed_on(rt: HostRuntime) {
     for mask in 0..=255u8 {
         let dtc = 0x010000 + u32::from(mask) * 256 + 0xFE;
-        assert!(rt; asks(&[0x19, 0x01, mask], false, Request::Count { mask }, false));
-        assert!(rt; asks(&[0x19, 0x82, mask], false, Request::ByMask { mask }, true));
-        assert!(rt;
-            asks(
-                &[0x14, 0x01, mask, 0xFE],
-                false,
-                Request::Clear { dtc },
-                false
-            )
-        );
+        let clear = [0x14, 0x01, mask, 0xFE];
+        let are_handed_on = asks(&[0x19, 0x01, mask], false, Request::Count { mask }, false)
+            && asks(&[0x19, 0x82, mask], false, Request::ByMask { mask }, true)
+            && asks(&clear, false, Request::Clear { dtc }, false);
+        holds_at(&rt, are_handed_on, "the mask", mask as usize);
     }
 }
 
@@ -226,7 +231,8 @@ fn front() -> ArrayVec<u8, RESPONSE>
 #[test]
 fn puts_append_until_the_response_is_full(rt: HostRuntime) {
     let mut out = front();
-    assert!(&rt; out.as_slice() == FRONT.as_slice());
+    holds(&rt, out.as_slice() == FRONT.as_slice(), "the front");
     put_bytes(&[0xAA; RESPONSE - 11], &mut out);
-    assert!(rt; out.len() == RESPONSE && out[RESPONSE - 1] == 0xAA);
+    let is_full = out.len() == RESPONSE && out[RESPONSE - 1] == 0xAA;
+    holds(&rt, is_full, "the last byte");
 }

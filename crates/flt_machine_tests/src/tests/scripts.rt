@@ -1,5 +1,6 @@
 //! The script: worked lines and blocks, and each limit; and what a life makes of its steps: which parts are possible, what is kept of their
 //! answers, the room for its calls, and the lines of the report.
+use super::{holds, holds_at};
 use flt_did::{DID_ROWS, DidTable, did_0101, did_0103, did_0107};
 use flt_flash::{Arm, Pattern};
 use flt_model::Report;
@@ -370,11 +371,16 @@ static SETTINGS: [(&str, &str); 83] = [
     ),
 ];
 
+/// Stops the test unless this is reported of a script.
+fn compare(rt: &impl Abort, script: &str, told: &str, wanted: &str) {
+    assert!(rt; told == wanted, "{script:?} {told:?}");
+}
+
 /// Each script is reported as its case says.
 fn all_are_told(rt: &impl Abort, alloc: Global, cases: &[(&str, &str)]) -> Result<(), Fail> {
     for case in cases {
         let told = outcome(alloc, case.0.as_bytes())?;
-        assert!(rt; told.as_str() == case.1, "{:?} {told:?}", case.0);
+        compare(rt, case.0, told.as_str(), case.1);
     }
     Ok(())
 }
@@ -420,8 +426,10 @@ fn mute() -> Part {
 fn arms_are_made_as_written(rt: HostRuntime) -> Result<(), Fail> {
     let text = "cut 2 tail\npower\nfault 3 odd\nmute 1 5 7";
     let script = parse(rt.alloc(), text.as_bytes(), &table())?;
-    assert!(rt; script.lives.len() == 2);
-    assert!(rt; has_parts(&script.lives, 0, &[cut()]));
-    assert!(rt; has_parts(&script.lives, 1, &[fault(), mute()]));
+    holds(&rt, script.lives.len() == 2, "how many lives");
+    let is_cut = has_parts(&script.lives, 0, &[cut()]);
+    holds(&rt, is_cut, "the arm of the first life");
+    let are_made = has_parts(&script.lives, 1, &[fault(), mute()]);
+    holds(&rt, are_made, "the arms of the second life");
     Ok(())
 }

@@ -1,6 +1,7 @@
 //! The durable state of one event over many cycles.
+use super::holds;
 use flt_config::UNTESTED;
-use flt_status::{EventCfg, EventState, FailedMark, clear, cycle, displaced, failed, passed};
+use flt_status::{EventCfg, EventState, clear, cycle, displaced, failed, passed};
 
 /// The greatest thresholds, with an indicator.
 fn slowest() -> EventCfg {
@@ -24,16 +25,14 @@ fn counts_stop_at_their_ends(rt: HostRuntime) {
             confirmed = confirmed.saturating_add(1);
         }
     }
-    assert!(rt; confirmed == 1);
-    assert!(rt;
-        state
-            == EventState {
-                status: 0xAF,
-                failed: 255,
-                clean: 0,
-                lit: true
-            }
-    );
+    holds(&rt, confirmed == 1, "it is confirmed once");
+    let wanted = EventState {
+        status: 0xAF,
+        failed: 255,
+        clean: 0,
+        lit: true,
+    };
+    holds(&rt, state == wanted, "the state after the failures");
 
     let mut aged = 0u32;
     for _ in 0..600u16 {
@@ -42,16 +41,14 @@ fn counts_stop_at_their_ends(rt: HostRuntime) {
         }
         passed(&mut state);
     }
-    assert!(rt; aged == 1);
-    assert!(rt;
-        state
-            == EventState {
-                status: 0x20,
-                failed: 0,
-                clean: 510,
-                lit: false
-            }
-    );
+    holds(&rt, aged == 1, "it ages once");
+    let wanted = EventState {
+        status: 0x20,
+        failed: 0,
+        clean: 510,
+        lit: false,
+    };
+    holds(&rt, state == wanted, "the state after the passes");
 }
 
 #[test]
@@ -63,31 +60,17 @@ fn a_displaced_event_fails_anew_and_a_cleared_one_is_untested(rt: HostRuntime) {
     let mut state = UNTESTED;
     let _aged = cycle(&rules, &mut state);
     let first = failed(&rules, &mut state);
-    assert!(rt;
-        first
-            == FailedMark {
-                entered: true,
-                confirmed: true
-            }
-    );
+    holds(&rt, first.entered && first.confirmed, "the first failure");
     displaced(&mut state);
-    assert!(rt;
-        state
-            == EventState {
-                status: 0x27,
-                failed: 1,
-                clean: 0,
-                lit: false
-            }
-    );
+    let wanted = EventState {
+        status: 0x27,
+        failed: 1,
+        clean: 0,
+        lit: false,
+    };
+    holds(&rt, state == wanted, "the displaced event");
     let again = failed(&rules, &mut state);
-    assert!(rt;
-        again
-            == FailedMark {
-                entered: false,
-                confirmed: true
-            }
-    );
+    holds(&rt, !again.entered && again.confirmed, "the next failure");
     clear(&mut state);
-    assert!(rt; state == UNTESTED);
+    holds(&rt, state == UNTESTED, "the cleared event");
 }

@@ -3,12 +3,14 @@
 ghost use Rattle.std.specs.Prelude.{◌<◌, ◌↔◌, IsTrue, length};
 ghost use Rattle.flt_dcm.specs.Whole.{config_of};
 
+use super::holds;
 use arrayvec::ArrayVec;
 use flt_config::{Config, EventCfg, Persist, check, initial};
 use flt_dcm::*;
 use flt_dem::DemState;
 use flt_did::DidTable;
 use flt_model::{REQUEST, Report};
+use std::process::Abort;
 
 /// A configuration of one event, of DTC 123456.
 fn configured() -> Config {
@@ -317,17 +319,20 @@ fn are_answered(server: &mut Server, service: u8, second: u8) -> bool {
     true
 }
 
+/// Stops the test unless this is so of requests of these first two bytes.
+fn holds_of(rt: &impl Abort, is_so: bool, service: u8, second: u8) {
+    assert!(rt; is_so, "{service:02X} {second:02X}");
+}
+
 #[test]
 fn each_request_is_answered_as_the_table_says(rt: HostRuntime) {
     let mut server = served().expect(&rt, "the configuration is valid");
-    assert!(&rt; server.starts());
+    holds(&rt, server.starts(), "the first cycle starts");
     for service in 0..=255u8 {
         for second in 0..=255u8 {
             if is_known(service) || second % 128 == 0x02 {
-                assert!(&rt;
-                    are_answered(&mut server, service, second),
-                    "{service:02X} {second:02X}"
-                );
+                let are_answered = are_answered(&mut server, service, second);
+                holds_of(&rt, are_answered, service, second);
             }
         }
     }

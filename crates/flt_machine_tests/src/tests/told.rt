@@ -6,6 +6,7 @@ ghost use Rattle.flt_did.specs.Table.{dids_of};
 ghost use Rattle.flt_dcm.specs.Unit.{IsAdmitted};
 ghost use Rattle.flt_notify.specs.Watched.{watched_unit};
 
+use super::holds;
 use arrayvec::ArrayVec;
 use flt_config::{Config, EVENTS, EventCfg, check};
 use flt_dcm::Op;
@@ -125,10 +126,10 @@ fn tells_each_change_once(rt: HostRuntime) {
         Call::Fail(1),
         Call::Ask(&[0x14, 0xFF, 0xFF, 0xFF]),
     ];
-    assert!(rt;
-        values_after(rt.alloc(), &FAIL_AND_PASS) == Some([Some(2), Some(12_078), Some(648_415)])
-    );
-    assert!(rt;
-        values_after(rt.alloc(), &CLEAR_OF_TWO) == Some([Some(4), Some(77_648), Some(694_679_520)])
-    );
+    let told = values_after(rt.alloc(), &FAIL_AND_PASS);
+    let wanted = Some([Some(2), Some(12_078), Some(648_415)]);
+    holds(&rt, told == wanted, "a failure and a pass");
+    let told = values_after(rt.alloc(), &CLEAR_OF_TWO);
+    let wanted = Some([Some(4), Some(77_648), Some(694_679_520)]);
+    holds(&rt, told == wanted, "two failures and a clear");
 }

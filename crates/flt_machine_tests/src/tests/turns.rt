@@ -3,6 +3,7 @@ ghost use Rattle.std.specs.Prelude.{◌≡◌, ◌+◌, ◌*◌, ◌%◌, ◌^�
 ghost use Rattle.std.specs.Thread.{IsSync};
 ghost use Rattle.flt_turn.specs.Seats.{IsSeatOf};
 
+use super::holds;
 use flt_turn::{Answer, Entry, Machine, Seat, Stepper, Turn};
 use std::sync::Wait;
 use std::test::*;
@@ -104,26 +105,31 @@ fn places_and_answers(rt: HostRuntime) -> Result<(), Fail> {
         return Err(Fail::from("memory"));
     };
     let mut lane = turn.split(&mut main, 2);
-    assert!(rt; main.left() == 1 && main.children() == 1 && main.waiting() == 1);
-    assert!(rt; lane.number() == 1 && lane.left() == 2);
+    let is_split = main.left() == 1 && main.children() == 1 && main.waiting() == 1;
+    holds(&rt, is_split, "the main seat");
+    let is_lane = lane.number() == 1 && lane.left() == 2;
+    holds(&rt, is_lane, "the split seat");
     let Ok(first) = turn.call(&rt, &mut lane, &(), 5, &mut ()) else {
         unreachable!()
     };
     let Ok(second) = turn.call(&rt, &mut lane, &(), 6, &mut ()) else {
         unreachable!()
     };
-    assert!(rt; is_at(&first, 0, 5) && is_at(&second, 1, 11));
+    let are_told = is_at(&first, 0, 5) && is_at(&second, 1, 11);
+    holds(&rt, are_told, "the calls of the split seat");
     let Err(full) = turn.call(&rt, &mut lane, &(), 9, &mut ()) else {
         unreachable!()
     };
     turn.join(&mut main, lane);
-    assert!(rt; full.op == 9 && main.waiting() == 0);
+    let is_joined = full.op == 9 && main.waiting() == 0;
+    holds(&rt, is_joined, "a call too many, and the joined seat");
     let Ok(third) = turn.call(&rt, &mut main, &(), 7, &mut ()) else {
         unreachable!()
     };
-    assert!(rt; is_at(&third, 2, 18));
+    holds(&rt, is_at(&third, 2, 18), "the call of the main seat");
     let vault = turn.close(main);
-    assert!(rt; are_entries(&vault.journal, &ENTRIES) && vault.machine.sum == 18);
+    let is_whole = are_entries(&vault.journal, &ENTRIES) && vault.machine.sum == 18;
+    holds(&rt, is_whole, "the journal and the sum");
     Ok(())
 }
 
@@ -138,17 +144,21 @@ fn answers_in_two_parts(rt: HostRuntime) -> Result<(), Fail> {
     let Ok(first) = turn.call(&rt, &mut main, &(), 1_234, &mut rest) else {
         unreachable!()
     };
-    assert!(rt; is_at(&first, 0, 234) && rest == 1_000);
+    let is_told = is_at(&first, 0, 234) && rest == 1_000;
+    holds(&rt, is_told, "the first call");
     let Ok(second) = turn.call(&rt, &mut main, &(), 4_999, &mut rest) else {
         unreachable!()
     };
-    assert!(rt; is_at(&second, 1, 233) && rest == 6_000);
+    let is_told = is_at(&second, 1, 233) && rest == 6_000;
+    holds(&rt, is_told, "the second call");
     let Err(full) = turn.call(&rt, &mut main, &(), 8, &mut rest) else {
         unreachable!()
     };
-    assert!(rt; full.op == 8 && rest == 6_000);
+    let is_full = full.op == 8 && rest == 6_000;
+    holds(&rt, is_full, "a call too many");
     let vault = turn.close(main);
-    assert!(rt; vault.journal.len() == 2 && vault.machine.sum == 6_233);
+    let is_whole = vault.journal.len() == 2 && vault.machine.sum == 6_233;
+    holds(&rt, is_whole, "the journal and the sum");
     Ok(())
 }
 
@@ -226,7 +236,9 @@ fn lanes_share_one_journal(rt: HostRuntime) -> Result<(), Fail> {
     let main = run_lanes(&rt, &turn, main, 8, 5_000);
     assert!(rt; main.waiting() == 0);
     let vault = turn.close(main);
-    assert!(rt; vault.journal.len() == 40_000 && vault.machine.sum == 8 * 5_000 * 5_001 / 2);
-    assert!(rt; are_in_order(&vault.journal, 5_000));
+    let is_whole = vault.journal.len() == 40_000 && vault.machine.sum == 8 * 5_000 * 5_001 / 2;
+    holds(&rt, is_whole, "the journal and the sum");
+    let are_in_order = are_in_order(&vault.journal, 5_000);
+    holds(&rt, are_in_order, "the calls of each lane");
     Ok(())
 }

@@ -1,3 +1,4 @@
+use super::holds;
 use arrayvec::ArrayVec;
 use flt_dcm::ReplyKind;
 use flt_life_model::*;
@@ -21,10 +22,12 @@ fn answers_are_kept(rt: HostRuntime) -> Result<(), Fail> {
     let mut bytes = ArrayVec::new();
     bytes.push(0xB9);
     replies.keep(StepAnswer::Bytes(bytes), &[0x7F]);
-    assert!(rt; replies.answers.len() == 4);
-    assert!(rt; replies.responses.as_slice() == [0x51, 0x01, 0xB9].as_slice());
+    holds(&rt, replies.answers.len() == 4, "how many answers");
+    let are_kept = replies.responses.as_slice() == [0x51, 0x01, 0xB9].as_slice();
+    holds(&rt, are_kept, "the bytes of the responses");
     let block = KeptResponse { from: 2, length: 1 };
-    assert!(rt; block.among(&[0x51, 0x01, 0xB9]) == [0xB9].as_slice());
+    let is_last = block.among(&[0x51, 0x01, 0xB9]) == [0xB9].as_slice();
+    holds(&rt, is_last, "the bytes of the last response");
     Ok(())
 }
 
@@ -38,11 +41,11 @@ fn room_is_taken_for_all_lanes(rt: HostRuntime) -> Result<(), Fail> {
         told,
         replies,
     } = room;
-    assert!(rt; lanes.len() == 0);
+    holds(&rt, lanes.len() == 0, "no lane");
     let journal = Vec::new(rt.alloc());
     let queue = Vec::new(rt.alloc());
     let life = life_of(Boot::Dark, journal, queue, own, told, replies);
-    assert!(rt; life.replies.len() == 1);
+    holds(&rt, life.replies.len() == 1, "the replies of one part");
     Ok(())
 }
 
@@ -53,10 +56,10 @@ fn counts(step: Step, calls: usize, jobs: usize, bytes: usize) -> bool {
 
 #[test]
 fn steps_are_counted(rt: HostRuntime) {
-    assert!(rt; counts(Step::Save, 2, 0, 0));
-    assert!(rt; counts(Step::Show { event: 0 }, 1, 0, 0));
-    assert!(rt; counts(Step::Cycle { cycle: 3 }, 1, 0, 0));
-    assert!(rt; counts(Step::Drain, 0, 64, 0));
-    assert!(rt; counts(Step::Ask { block: 0 }, 0, 1, 0));
-    assert!(rt; counts(Step::Get { block: 0 }, 0, 0, 32));
+    holds(&rt, counts(Step::Save, 2, 0, 0), "save");
+    holds(&rt, counts(Step::Show { event: 0 }, 1, 0, 0), "show");
+    holds(&rt, counts(Step::Cycle { cycle: 3 }, 1, 0, 0), "cycle");
+    holds(&rt, counts(Step::Drain, 0, 64, 0), "drain");
+    holds(&rt, counts(Step::Ask { block: 0 }, 0, 1, 0), "ask");
+    holds(&rt, counts(Step::Get { block: 0 }, 0, 0, 32), "get");
 }

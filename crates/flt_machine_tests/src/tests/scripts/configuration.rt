@@ -11,8 +11,9 @@ pub(super) fn has(config: &Config, id: u16, memory: u8, blocks: u8, pages: u16) 
 fn nothing_written(rt: HostRuntime) -> Result<(), Fail> {
     let script = parse(rt.alloc(), b"", &table())?;
     let config = script.config.config();
-    assert!(rt; has(config, 0, 16, 8, 512) && config.events.is_empty());
-    assert!(rt; script.lives.len() == 1);
+    let is_first = has(config, 0, 16, 8, 512) && config.events.is_empty();
+    holds(&rt, is_first, "the settings");
+    holds(&rt, script.lives.len() == 1, "how many lives");
     Ok(())
 }
 
@@ -62,7 +63,7 @@ pub(super) fn plain_event(dtc: u32) -> EventCfg {
 
 #[test]
 fn an_event_is_new_as_a_line_writes_it(rt: HostRuntime) {
-    assert!(&rt; EventCfg::new(10) == plain_event(10));
+    holds(&rt, EventCfg::new(10) == plain_event(10), "a new event");
 }
 
 /// The debouncing and the data identifiers of the second event.
@@ -103,7 +104,8 @@ fn are_as_written(events: &[EventCfg]) -> bool {
 fn whole_configuration(rt: HostRuntime) -> Result<(), Fail> {
     let script = parse(rt.alloc(), WHOLE.as_bytes(), &table())?;
     let config = script.config.config();
-    assert!(rt; has(config, 7, 2, 3, 100));
-    assert!(rt; are_as_written(config.events.as_slice()));
+    holds(&rt, has(config, 7, 2, 3, 100), "the settings");
+    let are_as_written = are_as_written(config.events.as_slice());
+    holds(&rt, are_as_written, "the events");
     Ok(())
 }

@@ -51,6 +51,7 @@ fn job(urgent: bool, block: u8, written: &[u8]) -> Part {
 fn jobs_are_made_as_written(rt: HostRuntime) -> Result<(), Fail> {
     let script = parse(rt.alloc(), b"post 3 01 af\nurge 0 7F", &table())?;
     let wanted = [job(false, 3, &[0x01, 0xAF]), job(true, 0, &[0x7F])];
-    assert!(rt; script.lives.len() == 1 && has_parts(&script.lives, 0, &wanted));
+    let is_made = script.lives.len() == 1 && has_parts(&script.lives, 0, &wanted);
+    holds(&rt, is_made, "the jobs of the life");
     Ok(())
 }

@@ -30,10 +30,8 @@ static AS_MANY: [(&str, usize, usize); 5] = [
 
 /// This many bytes are reported of the script.
 fn is_as_long(rt: &impl Abort, alloc: Global, script: String, length: usize) -> Result<(), Fail> {
-    assert!(rt;
-        outcome(alloc, script.as_bytes())?.len() == length,
-        "{length}"
-    );
+    let told = outcome(alloc, script.as_bytes())?;
+    holds_at(rt, told.len() == length, "how long", length);
     Ok(())
 }
 
@@ -118,10 +116,8 @@ fn is_told(
     told: &str,
 ) -> Result<(), Fail> {
     script.push_str(behind)?;
-    assert!(rt;
-        outcome(alloc, script.as_bytes())?.as_str() == told,
-        "{behind:?} {told:?}"
-    );
+    let found = outcome(alloc, script.as_bytes())?;
+    compare(rt, behind, found.as_str(), told);
     Ok(())
 }
 
@@ -159,7 +155,8 @@ fn a_power_up_is_no_arm_and_no_step(rt: HostRuntime) -> Result<(), Fail> {
     let mut script = repeated(rt.alloc(), "fault 2 none\n", 64)?;
     script.push_str("power\nsave")?;
     let told = outcome(rt.alloc(), script.as_bytes())?;
-    assert!(rt; told.as_str().ends_with("fault 2 none.|save."));
+    let has_both = told.as_str().ends_with("fault 2 none.|save.");
+    holds(&rt, has_both, "the steps behind the arms");
     Ok(())
 }
 

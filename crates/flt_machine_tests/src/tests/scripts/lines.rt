@@ -3,6 +3,7 @@ ghost use Rattle.std.specs.Prelude.{◌≢◌};
 ghost use Rattle.flt_life_model.specs.Answers.{IsAnswerWithin};
 ghost use Rattle.flt_restore.specs.declared.fault.StartFault.TheVariants as faults;
 
+use super::holds;
 use arrayvec::ArrayVec;
 use flt_config::{CfgFault, Persist};
 use flt_life_model::{
@@ -16,6 +17,7 @@ use flt_step::Step;
 use flt_store::SaveFault;
 use flt_store_model::{Mark, Place};
 use std::alloc::{AllocError, Global};
+use std::process::Abort;
 use std::test::Fail;
 
 /// The bytes of two responses, of 3 and 2 bytes.
@@ -37,6 +39,14 @@ fn is_step(alloc: Global, step: &Step, answer: &KeptAnswer, line: &str) -> Resul
     out.extend_from_slice(BEFORE)?;
     put_step(step, answer, &RESPONSES, &mut out)?;
     Ok(stands(&out, line))
+}
+
+/// Stops the test unless a step that is answered so has this line.
+fn has_line(rt: &impl Abort, alloc: Global, step: &Step, answer: &KeptAnswer, line: &str)
+    requires { IsAnswerWithin 5 answer.now }
+{
+    let has_it = matches!(is_step(alloc, step, answer, line), Ok(true));
+    holds(rt, has_it, line);
 }
 
 /// The answer of a call, whose response is within the bytes.
@@ -100,43 +110,53 @@ static REPLIES: [(KeptReply, &str); 9] = [
 ];
 
 #[test]
-fn replies_to_calls(rt: HostRuntime) -> Result<(), Fail> {
+fn replies_to_calls(rt: HostRuntime) {
     let cycle = Step::Cycle { cycle: 3 };
     for (reply, line) in &REPLIES {
-        assert!(rt; is_step(rt.alloc(), &cycle, &told(*reply), line)?, "{line}");
+        has_line(&rt, rt.alloc(), &cycle, &told(*reply), line);
     }
-    Ok(())
 }
 
-/// Whether a save that fails so has this line.
-fn is_failed_save(alloc: Global, fault: SaveFault, line: &str) -> Result<bool, AllocError> {
-    is_step(alloc, &Step::Save, &StepAnswer::SaveFailed(fault), line)
+/// Stops the test unless a save that fails so has this line.
+fn fails_to_save(rt: &impl Abort, alloc: Global, fault: SaveFault, line: &str) {
+    has_line(rt, alloc, &Step::Save, &StepAnswer::SaveFailed(fault), line);
 }
 
 #[test]
-fn other_answers(rt: HostRuntime) -> Result<(), Fail> {
+fn answers_of_saves(rt: HostRuntime) {
     let alloc = rt.alloc();
     let saved = StepAnswer::Saved(4_294_967_295);
-    assert!(rt; is_step(alloc, &Step::Save, &saved, "save -> 4294967295\n")?);
-    assert!(rt; is_failed_save(alloc, SaveFault::Flash, "save -> flash\n")?);
-    assert!(rt; is_failed_save(alloc, SaveFault::Spent, "save -> spent\n")?);
-    assert!(rt; is_failed_save(alloc, SaveFault::SequenceSpent, "save -> sequence\n")?);
-    assert!(rt; is_step(alloc, &Step::Drain, &StepAnswer::Armed, "drain -> armed\n")?);
+    has_line(&rt, alloc, &Step::Save, &saved, "save -> 4294967295\n");
+    fails_to_save(&rt, alloc, SaveFault::Flash, "save -> flash\n");
+    fails_to_save(&rt, alloc, SaveFault::Spent, "save -> spent\n");
+    let fault = SaveFault::SequenceSpent;
+    fails_to_save(&rt, alloc, fault, "save -> sequence\n");
+}
+
+#[test]
+fn other_answers(rt: HostRuntime) {
+    let alloc = rt.alloc();
+    has_line(
+        &rt,
+        alloc,
+        &Step::Drain,
+        &StepAnswer::Armed,
+        "drain -> armed\n",
+    );
     let get = Step::Get { block: 9 };
     let bytes = StepAnswer::Bytes(KeptResponse { from: 1, length: 2 });
-    assert!(rt; is_step(alloc, &get, &bytes, "get 9 -> 0A B9\n")?);
+    has_line(&rt, alloc, &get, &bytes, "get 9 -> 0A B9\n");
     let ask = Step::Ask { block: 9 };
     let full = StepAnswer::Queue(Answer {
         place: 7,
         reply: KeptQueueReply::QueueFull,
     });
-    assert!(rt; is_step(alloc, &ask, &full, "ask 9 -> full\n")?);
-    Ok(())
+    has_line(&rt, alloc, &ask, &full, "ask 9 -> full\n");
 }
 
-/// Whether this step has this line in a dark life.
-fn is_dark(alloc: Global, step: &Step, line: &str) -> Result<bool, AllocError> {
-    is_step(alloc, step, &StepAnswer::Dark, line)
+/// Stops the test unless this step has this line in a dark life.
+fn is_dark(rt: &impl Abort, alloc: Global, step: &Step, line: &str) {
+    has_line(rt, alloc, step, &StepAnswer::Dark, line);
 }
 
 /// Reports in a dark life, each with its line.
@@ -148,15 +168,14 @@ static REPORTS: [(Report, &str); 4] = [
 ];
 
 #[test]
-fn words_of_reports(rt: HostRuntime) -> Result<(), Fail> {
+fn words_of_reports(rt: HostRuntime) {
     for (report, line) in &REPORTS {
         let report = Step::Report {
             event: 0,
             report: *report,
         };
-        assert!(rt; is_dark(rt.alloc(), &report, line)?, "{line}");
+        is_dark(&rt, rt.alloc(), &report, line);
     }
-    Ok(())
 }
 
 fn enable(fulfilled: bool) -> Step {
@@ -168,21 +187,16 @@ fn enable(fulfilled: bool) -> Step {
 }
 
 #[test]
-fn words_of_numbers(rt: HostRuntime) -> Result<(), Fail> {
+fn words_of_numbers(rt: HostRuntime) {
     let alloc = rt.alloc();
-    assert!(rt; is_dark(alloc, &Step::Show { event: 63 }, "show 63 -> dark\n")?);
-    assert!(rt; is_dark(alloc, &Step::Tick { ticks: 65535 }, "tick 65535 -> dark\n")?);
+    is_dark(&rt, alloc, &Step::Show { event: 63 }, "show 63 -> dark\n");
+    let tick = Step::Tick { ticks: 65535 };
+    is_dark(&rt, alloc, &tick, "tick 65535 -> dark\n");
     let (index, value) = (7, 1000);
-    assert!(rt;
-        is_dark(
-            alloc,
-            &Step::Signal { index, value },
-            "sig 7 1000 -> dark\n"
-        )?
-    );
-    assert!(rt; is_dark(alloc, &enable(false), "enable 7 0 -> dark\n")?);
-    assert!(rt; is_dark(alloc, &enable(true), "enable 7 1 -> dark\n")?);
-    Ok(())
+    let signal = Step::Signal { index, value };
+    is_dark(&rt, alloc, &signal, "sig 7 1000 -> dark\n");
+    is_dark(&rt, alloc, &enable(false), "enable 7 0 -> dark\n");
+    is_dark(&rt, alloc, &enable(true), "enable 7 1 -> dark\n");
 }
 
 /// A request of these bytes.
@@ -193,11 +207,10 @@ fn request(tester: u8, written: &[u8]) -> Step {
 }
 
 #[test]
-fn words_of_requests(rt: HostRuntime) -> Result<(), Fail> {
-    assert!(rt; is_dark(rt.alloc(), &request(0, &[0x19]), "t A 19 -> dark\n")?);
+fn words_of_requests(rt: HostRuntime) {
+    is_dark(&rt, rt.alloc(), &request(0, &[0x19]), "t A 19 -> dark\n");
     let three = request(3, &[0x19, 0xFA, 0x0B]);
-    assert!(rt; is_dark(rt.alloc(), &three, "t D 19 FA 0B -> dark\n")?);
-    Ok(())
+    is_dark(&rt, rt.alloc(), &three, "t D 19 FA 0B -> dark\n");
 }
 
 /// A state at rest of no event.
@@ -224,14 +237,15 @@ fn is_boot(alloc: Global, life: u32, boot: &Boot, line: &str) -> Result<bool, Al
 }
 
 #[test]
-fn beginnings_of_lives(rt: HostRuntime) -> Result<(), Fail> {
+fn beginnings_of_lives(rt: HostRuntime) {
     let started = Boot::Started {
         generation: 12,
         start: at_rest(),
     };
-    assert!(rt; is_boot(rt.alloc(), 1, &started, "life 1 generation 12\n")?);
-    assert!(rt; is_boot(rt.alloc(), 10, &Boot::Dark, "life 10 dark\n")?);
-    Ok(())
+    let is_told = is_boot(rt.alloc(), 1, &started, "life 1 generation 12\n");
+    holds(&rt, matches!(is_told, Ok(true)), "a life with a generation");
+    let is_told = is_boot(rt.alloc(), 10, &Boot::Dark, "life 10 dark\n");
+    holds(&rt, matches!(is_told, Ok(true)), "a dark life");
 }
 
 /// Faults for which a start-up is refused, each with the line of the second life.
@@ -274,11 +288,11 @@ fn is_refused(alloc: Global, fault: StartFault, line: &str) -> Result<bool, Allo
 }
 
 #[test]
-fn refused_lives(rt: HostRuntime) -> Result<(), Fail> {
+fn refused_lives(rt: HostRuntime) {
     for (fault, line) in &REFUSED {
-        assert!(rt; is_refused(rt.alloc(), *fault, line)?, "{line}");
+        let is_told = is_refused(rt.alloc(), *fault, line);
+        holds(&rt, matches!(is_told, Ok(true)), line);
     }
-    Ok(())
 }
 
 /// Faults of scripts by their line, each with what is reported of it.
@@ -304,21 +318,26 @@ fn is_fault(alloc: Global, line: u32, cause: LineCause, text: &str) -> Result<bo
 }
 
 #[test]
-fn faults_of_scripts(rt: HostRuntime) -> Result<(), Fail> {
+fn faults_of_scripts(rt: HostRuntime) {
     for (line, cause, text) in &FAULTS {
-        assert!(rt; is_fault(rt.alloc(), *line, *cause, text)?, "{text}");
+        let is_told = is_fault(rt.alloc(), *line, *cause, text);
+        holds(&rt, matches!(is_told, Ok(true)), text);
     }
-    Ok(())
+}
+
+/// Puts the lines of a block of two lanes.
+fn put_block(out: &mut Vec<u8>) -> Result<(), AllocError> {
+    put_par(out)?;
+    put_lane(1, out)?;
+    put_lane(u32::MAX, out)?;
+    put_end(out)
 }
 
 #[test]
 fn lines_of_a_block(rt: HostRuntime) -> Result<(), Fail> {
     let mut out = Vec::new(rt.alloc());
-    put_par(&mut out)?;
-    put_lane(1, &mut out)?;
-    put_lane(u32::MAX, &mut out)?;
-    put_end(&mut out)?;
+    put_block(&mut out)?;
     let wanted = "par\nlane 1\nlane 4294967295\nend\n";
-    assert!(rt; out.as_slice() == wanted.as_bytes());
+    holds(&rt, out.as_slice() == wanted.as_bytes(), "the lines");
     Ok(())
 }

@@ -47,10 +47,8 @@ fn is_loaded(alloc: Global, count: u32, lanes: bool, first_life: &str) -> Result
 #[test]
 fn loads(rt: HostRuntime) -> Result<(), Fail> {
     for (count, lanes, first_life) in &LOADS {
-        assert!(rt;
-            is_loaded(rt.alloc(), *count, *lanes, first_life)?,
-            "{count}"
-        );
+        let is_loaded = is_loaded(rt.alloc(), *count, *lanes, first_life)?;
+        holds_at(&rt, is_loaded, "a load of", *count as usize);
     }
     Ok(())
 }

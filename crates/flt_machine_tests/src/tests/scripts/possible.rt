@@ -1,10 +1,11 @@
+use super::holds;
 use arrayvec::ArrayVec;
 use flt_config::{Config, EventCfg};
 use flt_flash::{Arm, Pattern};
 use flt_life_model::are_possible;
 use flt_step::{Part, Step};
 use std::alloc::{AllocError, Global};
-use std::test::Fail;
+use std::process::Abort;
 
 /// A configuration of one event and two application blocks.
 fn small() -> Config {
@@ -50,6 +51,11 @@ fn is_possible(config: &Config, step: Step) -> bool {
     are_possible(config, &[Part::One(step)])
 }
 
+/// Whether the first step is possible, and the other, which is just out of range, is not.
+fn is_last(config: &Config, step: Step, other: Step) -> bool {
+    is_possible(config, step) && !is_possible(config, other)
+}
+
 fn signal(index: u8) -> Step {
     Step::Signal { index, value: 1 }
 }
@@ -69,12 +75,12 @@ fn cycle(cycle: u8) -> Step {
 #[test]
 fn possible_steps_are_told(rt: HostRuntime) {
     let config = small();
-    assert!(rt; is_possible(&config, show(0)) && !is_possible(&config, show(1)));
-    assert!(rt; is_possible(&config, cycle(3)) && !is_possible(&config, cycle(4)));
-    assert!(rt; is_possible(&config, signal(7)) && !is_possible(&config, signal(8)));
-    assert!(rt; is_possible(&config, enable(7)) && !is_possible(&config, enable(8)));
-    assert!(rt; is_possible(&config, get(1)) && !is_possible(&config, get(2)));
-    assert!(rt; is_possible(&config, cut(1)) && !is_possible(&config, cut(0)));
+    holds(&rt, is_last(&config, show(0), show(1)), "show");
+    holds(&rt, is_last(&config, cycle(3), cycle(4)), "cycle");
+    holds(&rt, is_last(&config, signal(7), signal(8)), "signal");
+    holds(&rt, is_last(&config, enable(7), enable(8)), "enable");
+    holds(&rt, is_last(&config, get(1), get(2)), "get");
+    holds(&rt, is_last(&config, cut(1), cut(0)), "cut");
 }
 
 /// Whether a life of one block of a save beside this step is possible.
@@ -82,13 +88,19 @@ fn may_save_beside(alloc: Global, config: &Config, step: Step) -> Result<bool, A
     Ok(are_possible(config, &[block(alloc, Step::Save, step)?]))
 }
 
+/// Stops the test unless such a life is possible, or is not.
+fn saves_beside(rt: &impl Abort, alloc: Global, step: Step, wanted: bool, what: &str) {
+    let is_told = match may_save_beside(alloc, &small(), step) {
+        Ok(found) => found == wanted,
+        Err(_) => false,
+    };
+    holds(rt, is_told, what);
+}
+
 #[test]
-fn possible_blocks_are_told(rt: HostRuntime) -> Result<(), Fail> {
-    let config = small();
-    let alloc = rt.alloc();
-    assert!(rt; may_save_beside(alloc, &config, cycle(0))?);
-    assert!(rt; !may_save_beside(alloc, &config, cycle(4))?);
-    assert!(rt; !may_save_beside(alloc, &config, Step::Drain)?);
-    assert!(rt; !may_save_beside(alloc, &config, cut(1))?);
-    Ok(())
+fn possible_blocks_are_told(rt: HostRuntime) {
+    saves_beside(&rt, rt.alloc(), cycle(0), true, "a cycle");
+    saves_beside(&rt, rt.alloc(), cycle(4), false, "no cycle");
+    saves_beside(&rt, rt.alloc(), Step::Drain, false, "a drain");
+    saves_beside(&rt, rt.alloc(), cut(1), false, "a cut");
 }

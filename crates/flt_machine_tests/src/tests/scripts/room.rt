@@ -1,3 +1,4 @@
+use super::holds;
 use flt_life_model::CallRoom;
 use flt_step::{Part, Step};
 use std::test::Fail;
@@ -12,7 +13,7 @@ fn calls_are_counted(rt: HostRuntime) -> Result<(), Fail> {
         machine: 2,
         queue: 65,
     };
-    assert!(rt; CallRoom::for_lane(&lane) == of_lane);
+    holds(&rt, CallRoom::for_lane(&lane) == of_lane, "a lane");
     let mut lanes = Vec::new(rt.alloc());
     lanes.push(lane)?;
     let parts = [
@@ -25,6 +26,6 @@ fn calls_are_counted(rt: HostRuntime) -> Result<(), Fail> {
         machine: 5,
         queue: 66,
     };
-    assert!(rt; CallRoom::for_parts(&parts) == of_parts);
+    holds(&rt, CallRoom::for_parts(&parts) == of_parts, "all parts");
     Ok(())
 }
