@@ -10,3 +10,15 @@ mod stops;
 mod streams;
 mod watches;
 mod worked;
+
+use std::process::Abort;
+
+/// Stops the test unless this is so.
+fn holds(rt: &impl Abort, is_so: bool, what: &str) {
+    assert!(rt; is_so, "{what}");
+}
+
+/// Stops the test unless this is so of the case of this number.
+fn holds_at(rt: &impl Abort, is_so: bool, what: &str, number: usize) {
+    assert!(rt; is_so, "{what} {number}");
+}

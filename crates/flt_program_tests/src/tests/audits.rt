@@ -1,4 +1,5 @@
 //! A worked trace with one change at a time, and what the audit reports of each.
+use super::holds;
 use flt_audit::audit;
 use flt_did::DidTable;
 use flt_io::{MemSink, MemSource};
@@ -220,11 +221,9 @@ fn is_told(rt: &impl Abort, alloc: Global, bytes: &[u8], told: &str) -> Result<(
     let mut source = MemSource::new(Vec::from_slice(alloc, bytes)?, Vec::new(alloc));
     let mut sink = MemSink::new(alloc, 100, Vec::new(alloc))?;
     let status = audit(alloc, &mut source, &mut sink, DidTable::new());
-    assert!(rt;
-        sink.bytes().strip_suffix(b"\n") == Some(told.as_bytes()),
-        "{told}"
-    );
-    assert!(rt; status == status_of(told), "{told}");
+    let is_told = sink.bytes().strip_suffix(b"\n") == Some(told.as_bytes())
+        && status == status_of(told);
+    holds(rt, is_told, told);
     Ok(())
 }
 

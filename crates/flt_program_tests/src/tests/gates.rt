@@ -1,4 +1,5 @@
 //! Lanes that are held by a gate: two that are at work at once, and one that reports while the store writes.
+use super::holds;
 use super::reports::run_held;
 use flt_config::ValidConfig;
 use flt_flash::{Arm, Bench, Blocks, Flash, FlashFailed, FlashMem};
@@ -64,6 +65,17 @@ struct Meeting {
     second: Asked,
     store: Asked,
     alone: AtomicU64,
+}
+
+impl Meeting {
+    /// Whether no lane waited in vain, and each was asked around its steps.
+    fn has_met(&self) -> bool {
+        self.alone.load(Ordering::SeqCst) == 0
+            && self.own.is_asked(3)
+            && self.store.is_asked(2)
+            && self.first.is_asked(1)
+            && self.second.is_asked(1)
+    }
 }
 
 impl Gate for Meeting {
@@ -139,10 +151,9 @@ fn lanes_overlap(rt: HostRuntime) -> Result<(), Fail> {
         failing,
         rt.alloc(),
     )?;
-    assert!(rt; status == 0 && sink.bytes() == report.as_bytes());
-    assert!(rt; meeting.alone.load(Ordering::SeqCst) == 0);
-    assert!(rt; meeting.own.is_asked(3) && meeting.store.is_asked(2));
-    assert!(rt; meeting.first.is_asked(1) && meeting.second.is_asked(1));
+    let is_told = status == 0 && sink.bytes() == report.as_bytes();
+    holds(&rt, is_told, "the status and the report");
+    holds(&rt, meeting.has_met(), "how often each lane was asked");
     Ok(())
 }
 
@@ -156,6 +167,15 @@ struct Report {
     programs: AtomicU64,
     answered: AtomicU64,
     vain: AtomicU64,
+}
+
+impl Report {
+    /// Whether a program waited once, the report was answered once, and neither waited in vain.
+    fn has_met(&self) -> bool {
+        self.programs.load(Ordering::SeqCst) == 1
+            && self.answered.load(Ordering::SeqCst) == 1
+            && self.vain.load(Ordering::SeqCst) == 0
+    }
 }
 
 /// Waits until the other has come, or counts that it did not.
@@ -290,9 +310,8 @@ fn reports_are_answered_while_the_store_writes(rt: HostRuntime) -> Result<(), Fa
         failing,
         rt.alloc(),
     )?;
-    assert!(rt; status == 0 && sink.bytes() == told.as_bytes());
-    assert!(rt; report.programs.load(Ordering::SeqCst) == 1);
-    assert!(rt; report.answered.load(Ordering::SeqCst) == 1);
-    assert!(rt; report.vain.load(Ordering::SeqCst) == 0);
+    let is_told = status == 0 && sink.bytes() == told.as_bytes();
+    holds(&rt, is_told, "the status and the report");
+    holds(&rt, report.has_met(), "the program and the answer");
     Ok(())
 }

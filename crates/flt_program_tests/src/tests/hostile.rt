@@ -1,5 +1,6 @@
 //! Tables of images, scripts and streams, each with what a run reports of it.
 use super::reports::{ends_so, ends_so_on_blank, run_over};
+use super::{holds, holds_at};
 use flt_code::seal;
 use flt_flash::{Flash, FlashMem};
 use flt_io::MemSink;
@@ -233,7 +234,7 @@ fn saved_image<R: Threads + Wait + Sync + Abort>(
 ) -> Result<Vec<[u8; 32]>, AllocError> {
     let blank = FlashMem::blank(alloc, PAGES, BOOTS)?;
     let (status, _, saved) = run_over(rt, blank, &["run"], SAVED.as_bytes(), (NONE, NONE), alloc)?;
-    assert!(rt; status == 0);
+    holds(rt, status == 0, "the run that leaves the image");
     pages_of(alloc, &saved)
 }
 
@@ -256,7 +257,8 @@ fn image_with<R: Threads + Wait + Sync + Abort>(
     changes: &[(usize, Change)],
 ) -> Result<FlashMem, AllocError> {
     let mut image = saved_image(rt, alloc)?;
-    assert!(rt; change_all(&mut image, version) && change_all(&mut image, changes));
+    let are_made = change_all(&mut image, version) && change_all(&mut image, changes);
+    holds(rt, are_made, "the changes of the image");
     assert!(rt; image.len() == 2048);
     FlashMem::of(alloc, image, BOOTS)
 }
@@ -361,7 +363,7 @@ fn large_scripts_are_refused(rt: HostRuntime) -> Result<(), Fail> {
 fn line_ends_are_accepted(rt: HostRuntime) -> Result<(), Fail> {
     for word in &READERS {
         let (status, _) = run_blank(&rt, rt.alloc(), word, ACCEPTED, (NONE, NONE))?;
-        assert!(rt; status == 0, "{word}");
+        holds(&rt, status == 0, word);
     }
     Ok(())
 }
@@ -400,18 +402,14 @@ fn streams_fail_at_each_call(rt: HostRuntime) -> Result<(), Fail> {
     let mut write = 4;
     for call in 0..CALLS {
         let (status, is_due) = status_of_a_pull(&rt, rt.alloc(), call)?;
-        assert!(rt;
-            is_due && (status == read || status == 2 && call > 0),
-            "pull {call}"
-        );
+        let is_told = is_due && (status == read || status == 2 && call > 0);
+        holds_at(&rt, is_told, "pull", call as usize);
         read = status;
         let (status, is_due) = status_of_a_push(&rt, rt.alloc(), call)?;
-        assert!(rt;
-            is_due && (status == write || status == 2 && call > 0),
-            "push {call}"
-        );
+        let is_told = is_due && (status == write || status == 2 && call > 0);
+        holds_at(&rt, is_told, "push", call as usize);
         write = status;
     }
-    assert!(rt; (read, write) == (2, 2));
+    holds(&rt, (read, write) == (2, 2), "the last calls are not made");
     Ok(())
 }

@@ -1,4 +1,5 @@
 //! Two lanes of a watch, held by a gate so that the one or the other makes its call first.
+use super::holds;
 use super::watches::{ONE, watched};
 use flt_lane::{Gate, LaneOf, LocksOf};
 use flt_watch::{WatchGate, WatchLock, WatchSeat, run_beside};
@@ -78,13 +79,11 @@ fn each_order_has_the_values_of_its_journal(rt: HostRuntime) -> Result<(), Fail>
         };
         let (outcome, sink) = watched(&rt, &order, SCRIPT, (&[], &[]), rt.alloc())?;
         let told = sink.bytes();
-        assert!(rt;
-            outcome.status == 0
-                && told.starts_with(LINES.as_bytes())
-                && told.ends_with(values.as_bytes()),
-            "{values}"
-        );
-        assert!(rt; order.vain.load(Ordering::SeqCst) == 0);
+        let is_told = outcome.status == 0
+            && told.starts_with(LINES.as_bytes())
+            && told.ends_with(values.as_bytes())
+            && order.vain.load(Ordering::SeqCst) == 0;
+        holds(&rt, is_told, values);
     }
     Ok(())
 }
@@ -98,6 +97,13 @@ struct Counted {
 }
 
 impl Counted {
+    /// It was asked around this many steps, each in its turn.
+    fn is_asked(&self, times: u64) -> bool {
+        self.before.load(Ordering::SeqCst) == times
+            && self.after.load(Ordering::SeqCst) == times
+            && self.astray.load(Ordering::SeqCst) == 0
+    }
+
     /// Notes a question that is not lane 0's, or not the next one.
     fn note(&self, lane: u32, is_next: bool) {
         if lane != 0 || !is_next {
@@ -139,9 +145,7 @@ fn lane_0_asks_around_each_step(rt: HostRuntime) -> Result<(), Fail> {
         astray: AtomicU64::new(0),
     };
     let (outcome, _sink) = watched(&rt, &gate, ONE, (&[], &[]), rt.alloc())?;
-    assert!(rt; outcome.status == 0);
-    assert!(rt; gate.before.load(Ordering::SeqCst) == 3);
-    assert!(rt; gate.after.load(Ordering::SeqCst) == 3);
-    assert!(rt; gate.astray.load(Ordering::SeqCst) == 0);
+    let is_asked = outcome.status == 0 && gate.is_asked(3);
+    holds(&rt, is_asked, "lane 0 around three steps");
     Ok(())
 }

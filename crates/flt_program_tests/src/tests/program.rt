@@ -1,4 +1,5 @@
 //! The whole program, which does what its words ask.
+use super::holds;
 use super::watches::{ONE, ONE_TOLD, table};
 use flt_did::DidTable;
 use flt_ea::{Eeprom, EepromMem};
@@ -7,7 +8,6 @@ use flt_io::{MemSink, MemSource};
 use flt_program::{Ended, OpenGate, program};
 use std::alloc::{AllocError, Global};
 use std::marker::Sync;
-use std::process::Abort;
 use std::sync::Wait;
 use std::test::Fail;
 use std::thread::Threads;
@@ -99,10 +99,8 @@ fn end_of<R: Threads + Wait + Sync>(
 fn the_program_does_what_its_words_ask(rt: HostRuntime) -> Result<(), Fail> {
     for (words, script, end, told) in &CASES {
         let (ended, sink) = end_of(&rt, words, script, rt.alloc())?;
-        assert!(rt;
-            ended == *end && sink.bytes() == told.as_bytes(),
-            "{script}"
-        );
+        let is_told = ended == *end && sink.bytes() == told.as_bytes();
+        holds(&rt, is_told, script);
     }
     Ok(())
 }

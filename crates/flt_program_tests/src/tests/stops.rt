@@ -1,4 +1,5 @@
 //! Sessions whose flash is cut off from its bytes at each of its writes, and the lives after them.
+use super::holds;
 use flt_did::DidTable;
 use flt_io::{MemSink, MemSource, Status};
 use flt_live::{MemShelf, Stop, run_session};
@@ -59,32 +60,45 @@ fn goes_on(text: &str) -> bool {
     generation && block
 }
 
+/// Whether the next life goes on after a session that stopped.
+fn is_gone_on(status: Status, written: &[u8]) -> bool {
+    let text = str::from_utf8(written).unwrap_or("");
+    status == Status::Done && text != WHOLE && goes_on(text)
+}
+
+/// Stops the test unless this is so of a session that stops so.
+fn holds_of(rt: &impl Abort, is_so: bool, stop: Stop) {
+    let Stop { writes, torn } = stop;
+    assert!(rt; is_so, "{writes} {torn}");
+}
+
+/// How many bytes are written of the write at which a session stops.
+static TORN: [usize; 4] = [0, 1, 17, 32];
+
 /// After a stop at each write, torn or not, the next life goes on.
 #[test]
 fn next_life_goes_on(rt: HostRuntime) -> Result<(), Fail> {
-    let alloc = rt.alloc();
     for writes in 0..WRITES {
-        for torn in [0, 1, 17, 32] {
-            let Ok((status, sink)) = session_that_stops(&rt, alloc, Stop { writes, torn }) else {
-                return Err(Fail::from("memory"));
+        for torn in &TORN {
+            let stop = Stop {
+                writes,
+                torn: *torn,
             };
-            let text = str::from_utf8(sink.bytes()).unwrap_or("");
-            assert!(rt;
-                status == Status::Done && text != WHOLE && goes_on(text),
-                "{writes} {torn} {text}"
-            );
+            let (status, sink) = session_that_stops(&rt, rt.alloc(), stop)?;
+            holds_of(&rt, is_gone_on(status, sink.bytes()), stop);
         }
     }
-    let Ok((status, sink)) = session_that_stops(
-        &rt,
-        alloc,
-        Stop {
-            writes: WRITES,
-            torn: 0,
-        },
-    ) else {
-        return Err(Fail::from("memory"));
+    Ok(())
+}
+
+#[test]
+fn a_session_behind_its_writes_is_whole(rt: HostRuntime) -> Result<(), Fail> {
+    let stop = Stop {
+        writes: WRITES,
+        torn: 0,
     };
-    assert!(rt; status == Status::Done && sink.bytes() == WHOLE.as_bytes());
+    let (status, sink) = session_that_stops(&rt, rt.alloc(), stop)?;
+    let is_whole = status == Status::Done && sink.bytes() == WHOLE.as_bytes();
+    holds(&rt, is_whole, "the whole session");
     Ok(())
 }

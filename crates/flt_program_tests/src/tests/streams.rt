@@ -1,4 +1,5 @@
 //! Streams in memory that fail at given calls, and std's streams that stutter.
+use super::{holds, holds_at};
 use flt_io::{MemSink, MemSource, ReadSource, Sink, Source, WriteSink};
 use std::alloc::{AllocError, Global};
 use std::io::{self, ErrorKind, Read, Write};
@@ -77,14 +78,14 @@ fn pull_all<S: Source>(
     wanted: &[Option<usize>],
 ) {
     for (at, count) in wanted.iter().enumerate() {
-        assert!(rt; source.pull(out).ok() == *count, "pull {at}");
+        holds_at(rt, source.pull(out).ok() == *count, "pull", at);
     }
 }
 
 /// Pushes these pieces, each of which is taken or not.
 fn push_all<K: Sink>(rt: &impl Abort, sink: &mut K, pieces: &[(&[u8], bool)]) {
     for (at, (piece, is_taken)) in pieces.iter().enumerate() {
-        assert!(rt; sink.push(piece).is_ok() == *is_taken, "push {at}");
+        holds_at(rt, sink.push(piece).is_ok() == *is_taken, "push", at);
     }
 }
 
@@ -97,7 +98,7 @@ fn memory_fails_at_the_given_calls(rt: HostRuntime) -> Result<(), Fail> {
     let mut source = MemSource::new(bytes, vec![in rt.alloc(); 1]?);
     let mut out = [0; 3];
     pull_all(&rt, &mut source, &mut out, &PULLED);
-    assert!(rt; out == [4, 5, 3]);
+    holds(&rt, out == [4, 5, 3], "the last bytes");
     Ok(())
 }
 
@@ -108,7 +109,7 @@ static PUSHED: [(&[u8], bool); 4] = [(b"abc", true), (b"d", false), (b"de", fals
 fn memory_takes_what_fits_but_at_the_given_calls(rt: HostRuntime) -> Result<(), Fail> {
     let mut sink = MemSink::new(rt.alloc(), 4, vec![in rt.alloc(); 1]?)?;
     push_all(&rt, &mut sink, &PUSHED);
-    assert!(rt; sink.bytes() == b"abcd".as_slice());
+    holds(&rt, sink.bytes() == b"abcd".as_slice(), "what fits");
     Ok(())
 }
 
@@ -134,7 +135,7 @@ fn sources_stutter(rt: HostRuntime) -> Result<(), Fail> {
     let mut source = ReadSource::new(stream_of(rt.alloc(), &[1, 2, 3], &STUTTERS)?);
     let mut out = [0; 3];
     pull_all(&rt, &mut source, &mut out, &STUTTERED);
-    assert!(rt; out == [2, 3, 0]);
+    holds(&rt, out == [2, 3, 0], "the last bytes");
     Ok(())
 }
 
@@ -172,7 +173,7 @@ fn sinks_stutter_and_break(rt: HostRuntime) -> Result<(), Fail> {
     for (at, (turns, pieces, held)) in SINKS.iter().enumerate() {
         let mut sink = WriteSink::new(stream_of(rt.alloc(), &[], turns)?);
         push_all(&rt, &mut sink, pieces);
-        assert!(rt; sink.into_inner().bytes.as_slice() == *held, "sink {at}");
+        holds_at(&rt, sink.into_inner().bytes.as_slice() == *held, "sink", at);
     }
     Ok(())
 }

@@ -1,6 +1,7 @@
 //! Worked scripts, with what is written of them, and the scripts that a watch does not make.
 ghost use Rattle.flt_notify.specs.Table.{IsAtZero};
 
+use super::holds;
 use flt_did::DidTable;
 use flt_io::{MemSink, MemSource};
 use flt_lane::OpenGate;
@@ -8,7 +9,6 @@ use flt_notify::{KINDS, SubTable, note_0, note_1, note_2};
 use flt_watch::{WatchGate, WatchOutcome, watch};
 use std::alloc::{AllocError, Global};
 use std::marker::Sync;
-use std::process::Abort;
 use std::sync::Wait;
 use std::test::Fail;
 use std::thread::Threads;
@@ -119,10 +119,8 @@ pub(super) fn watched<R: Threads + Wait + Sync, G: WatchGate>(
 fn scripts_are_watched(rt: HostRuntime) -> Result<(), Fail> {
     for (script, reads, writes, status, told) in &CASES {
         let (outcome, sink) = watched(&rt, &OpenGate, script, (reads, writes), rt.alloc())?;
-        assert!(rt;
-            outcome.status == *status && sink.bytes() == told.as_bytes(),
-            "{script}"
-        );
+        let is_told = outcome.status == *status && sink.bytes() == told.as_bytes();
+        holds(&rt, is_told, script);
     }
     Ok(())
 }
